@@ -1,0 +1,25 @@
+-- One step each of the walks over canonical lists of ranges of numbers.
+use Rattle.std.specs.Prelude.{◌≡◌, ℤ, pos, ◌+ℤ◌, ◌≤ℤ◌, ◌||◌, List, [], ◌∷◌, ◌++◌, ◌⊎◌}
+use Rattle.number_line.specs.Ranges.{lies_in, holds, IsCanonical}
+
+-- no range begins above n
+abbrev pub BeginBy : ℤ → List (ℤ × ℤ) → Type 0
+BeginBy n [] = Unit {0}
+BeginBy n (r ∷ rest) = (r.0 ≤ℤ n) × BeginBy n rest
+
+-- r is a first range of `left` or `right`, and `left_after` and `right_after` are left of them without it: no range begins before r
+pub record IsTaken (hi : ℤ) (left right : List (ℤ × ℤ)) (r : ℤ × ℤ) (left_after right_after : List (ℤ × ℤ)) : Type 0 where
+  pub members : (x : ℤ) → (holds left x || holds right x) ≡ (lies_in r x || (holds left_after x || holds right_after x))
+  pub range : (n : ℤ) → IsCanonical n hi left → IsCanonical n hi right
+      → (n ≤ℤ r.0) × (r.0 ≤ℤ r.1) × (r.1 ≤ℤ hi) × IsCanonical r.0 hi left_after × IsCanonical r.0 hi right_after
+
+-- `new` holds what `old` holds and what lies in r
+pub record IsJoined (lo hi : ℤ) (old : List (ℤ × ℤ)) (r : ℤ × ℤ) (new : List (ℤ × ℤ)) : Type 0 where
+  pub canonical : IsCanonical lo hi new
+  pub members : (x : ℤ) → holds new x ≡ (holds old x || lies_in r x)
+  pub begin_by : BeginBy r.0 new
+
+-- `new` is `old`, and behind it the range from `start` to below `next` where that isn't empty
+abbrev pub IsGapPushed : List (ℤ × ℤ) → ℤ → ℤ → List (ℤ × ℤ) → Type 0
+IsGapPushed old start next new =
+    ((new ≡ old) × (next ≤ℤ start)) ⊎ ((r : ℤ × ℤ) × (new ≡ old ++ r ∷ []) × (r.0 ≡ start) × (r.1 +ℤ pos 1 ≡ next) × (r.0 ≤ℤ r.1))

@@ -1,0 +1,12 @@
+//! Inclusive ranges of a numbered type, and sets of its values kept as ranges.
+#![tactic(auto)]
+
+mod iter;
+pub mod laws;
+mod merging;
+mod range;
+mod set;
+
+pub use iter::RangeIter;
+pub use range::Range;
+pub use set::RangeSet;
