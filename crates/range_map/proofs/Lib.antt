@@ -1,2 +1,6 @@
 pub mod CanonicalLemmas
 pub mod MergeLemmas
+pub mod GapLemmas
+pub mod CommonLemmas
+pub mod SearchLemmas
+pub mod EqualityLemmas

@@ -101,19 +101,21 @@ module _ {T : Type 0} (numbers : Numbering T) (old xs new : List (T × T)) (last
       → numbers.number cover.1 ≡ int_max (numbers.number last.1) (numbers.number r.1)
       → IsRange numbers cover
       → AreRanges numbers new × IsJoined numbers.least numbers.greatest (all_in_numbers numbers old) (in_numbers numbers r) (all_in_numbers numbers new)
-  pushed_last cover is touches start end h =
-      ( rw is (ranges-push numbers xs cover (ranges-pop numbers xs last (rw was at are_ranges)).0 h),
-        rw (is, map_push (in_numbers numbers) xs cover, old_in_numbers)
-            (joined_last numbers.least numbers.greatest (all_in_numbers numbers xs) (in_numbers numbers last) (in_numbers numbers r) (in_numbers numbers cover)
-                (rw old_in_numbers at canonical) (rw old_in_numbers at begin_by) range.ordered high touches start end) )
+  pushed_last cover is touches start end h = (
+    rw is (ranges-push numbers xs cover (ranges-pop numbers xs last (rw was at are_ranges)).0 h),
+    rw (is, map_push (in_numbers numbers) xs cover, old_in_numbers)
+        (joined_last numbers.least numbers.greatest (all_in_numbers numbers xs) (in_numbers numbers last) (in_numbers numbers r) (in_numbers numbers cover)
+        (rw old_in_numbers at canonical) (rw old_in_numbers at begin_by) range.ordered high touches start end),
+  )
 
   pub pushed_apart : new ≡ (xs ++ last ∷ []) ++ r ∷ [] → (numbers.number last.1 +ℤ pos 2) ≤ℤ numbers.number r.0
       → AreRanges numbers new × IsJoined numbers.least numbers.greatest (all_in_numbers numbers old) (in_numbers numbers r) (all_in_numbers numbers new)
-  pushed_apart is apart =
-      ( rw is (ranges-push numbers (xs ++ last ∷ []) r (rw was at are_ranges) range),
-        rw (is, map_push (in_numbers numbers) (xs ++ last ∷ []) r, map_push (in_numbers numbers) xs last, old_in_numbers)
-            (joined_apart numbers.least numbers.greatest (all_in_numbers numbers xs) (in_numbers numbers last) (in_numbers numbers r)
-                (rw old_in_numbers at canonical) (rw old_in_numbers at begin_by) range.ordered high apart) )
+  pushed_apart is apart = (
+    rw is (ranges-push numbers (xs ++ last ∷ []) r (rw was at are_ranges) range),
+    rw (is, map_push (in_numbers numbers) (xs ++ last ∷ []) r, map_push (in_numbers numbers) xs last, old_in_numbers)
+        (joined_apart numbers.least numbers.greatest (all_in_numbers numbers xs) (in_numbers numbers last) (in_numbers numbers r)
+        (rw old_in_numbers at canonical) (rw old_in_numbers at begin_by) range.ordered high apart),
+  )
 
 -- ---- the walk
 

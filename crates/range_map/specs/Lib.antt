@@ -1,3 +1,4 @@
 pub mod Range
 pub mod Set
+pub mod SetLaws
 pub mod Merging

@@ -1,5 +1,6 @@
 -- One step each of the walks over canonical lists of ranges of numbers.
-use Rattle.std.specs.Prelude.{◌≡◌, ℤ, pos, ◌+ℤ◌, ◌≤ℤ◌, ◌||◌, List, [], ◌∷◌, ◌++◌, ◌⊎◌}
+use Rattle.std.specs.Prelude.{◌≡◌, ℤ, pos, ◌+ℤ◌, ◌≤ℤ◌, false, ◌&&◌, ◌||◌, List, [], ◌∷◌, ◌++◌, ◌⊎◌}
+use Rattle.std.specs.Int.{int_min, int_max}
 use Rattle.number_line.specs.Ranges.{lies_in, holds, IsCanonical}
 
 -- no range begins above n
@@ -23,3 +24,9 @@ pub record IsJoined (lo hi : ℤ) (old : List (ℤ × ℤ)) (r : ℤ × ℤ) (ne
 abbrev pub IsGapPushed : List (ℤ × ℤ) → ℤ → ℤ → List (ℤ × ℤ) → Type 0
 IsGapPushed old start next new =
     ((new ≡ old) × (next ≤ℤ start)) ⊎ ((r : ℤ × ℤ) × (new ≡ old ++ r ∷ []) × (r.0 ≡ start) × (r.1 +ℤ pos 1 ≡ next) × (r.0 ≤ℤ r.1))
+
+-- `new` is `old`, and behind it the range of the numbers in both a and b where there are any
+abbrev pub IsCommonPushed : List (ℤ × ℤ) → ℤ × ℤ → ℤ × ℤ → List (ℤ × ℤ) → Type 0
+IsCommonPushed old a b new =
+    ((new ≡ old) × ((x : ℤ) → (lies_in a x && lies_in b x) ≡ false))
+    ⊎ ((r : ℤ × ℤ) × (new ≡ old ++ r ∷ []) × (r.0 ≡ int_max a.0 b.0) × (r.1 ≡ int_min a.1 b.1) × (r.0 ≤ℤ r.1))

@@ -31,7 +31,9 @@ impl<'a, T: Element> Clone for RangeIter<'a, T> {
     ghost is_infallible = { λ _. ⊤ };
 
     fn clone(&self) -> Result<Self, AllocError> {
-        Ok(RangeIter { ranges: self.ranges })
+        Ok(RangeIter {
+            ranges: self.ranges,
+        })
     }
 }
 

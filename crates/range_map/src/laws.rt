@@ -5,5 +5,4 @@ ghost use Rattle.number_line.specs.Laws.{OneCanonicalList};
 /// are equal.
 pub fn same_members_same_ranges()
     ensures { OneCanonicalList }
-{
-}
+{}

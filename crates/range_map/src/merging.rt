@@ -4,7 +4,7 @@ ghost use Rattle.std.specs.Bool.{MatchBool};
 ghost use Rattle.number_line.specs.Ranges.{IsCanonical};
 ghost use Rattle.range_map.specs.Range.{IsRange, in_numbers};
 ghost use Rattle.range_map.specs.Set.{all_in_numbers, AreRanges};
-ghost use Rattle.range_map.specs.Merging.{BeginBy, IsTaken, IsJoined};
+ghost use Rattle.range_map.specs.Merging.{BeginBy, IsTaken, IsJoined, IsGapPushed, IsCommonPushed};
 
 use crate::range::Range;
 use element_core::{Element, NoMemory, is_below};
@@ -19,7 +19,10 @@ pub(crate) struct Taken<'a, T: Element> {
 
 /// Takes the range that begins first; the left one, where both first ranges begin with one value. `None` where
 /// both lists are empty.
-pub(crate) fn take_first<'a, T: Element>(left: &'a [Range<T>], right: &'a [Range<T>]) -> Option<Taken<'a, T>>
+pub(crate) fn take_first<'a, T: Element>(
+    left: &'a [Range<T>],
+    right: &'a [Range<T>],
+) -> Option<Taken<'a, T>>
     ensures none { IfNone result ((left.now ≡ []) × (right.now ≡ [])) }
     ensures taken { IfSome result (λ t. IsTaken T.numbers.greatest (all_in_numbers T.numbers left.now) (all_in_numbers T.numbers right.now) (in_numbers T.numbers t.next) (all_in_numbers T.numbers t.left.now) (all_in_numbers T.numbers t.right.now)) }
     ensures range { IfSome result (λ t. IsRange T.numbers t.next) }
@@ -28,16 +31,32 @@ pub(crate) fn take_first<'a, T: Element>(left: &'a [Range<T>], right: &'a [Range
     let Some((a, after_a)) = left.split_first() else {
         let (b, after_b) = right.split_first()?;
         b.start();
-        return Some(Taken { next: *b, left, right: after_b });
+        return Some(Taken {
+            next: *b,
+            left,
+            right: after_b,
+        });
     };
     let Some((b, after_b)) = right.split_first() else {
         a.start();
-        return Some(Taken { next: *a, left: after_a, right });
+        return Some(Taken {
+            next: *a,
+            left: after_a,
+            right,
+        });
     };
     if is_below(b.start(), a.start()) {
-        Some(Taken { next: *b, left, right: after_b })
+        Some(Taken {
+            next: *b,
+            left,
+            right: after_b,
+        })
     } else {
-        Some(Taken { next: *a, left: after_a, right })
+        Some(Taken {
+            next: *a,
+            left: after_a,
+            right,
+        })
     }
 }
 
@@ -55,7 +74,10 @@ fn joins<T: Element>(last: &Range<T>, next: &Range<T>) -> bool
 
 /// Puts `range` behind the ranges of `list`, none of which begins later, as one with the last of them where the
 /// two overlap or touch.
-pub(crate) fn push_joined<T: Element>(list: &mut Vec<Range<T>>, range: Range<T>) -> Result<(), NoMemory>
+pub(crate) fn push_joined<T: Element>(
+    list: &mut Vec<Range<T>>,
+    range: Range<T>,
+) -> Result<(), NoMemory>
     requires are_ranges { AreRanges T.numbers list.old.items }
     requires canonical { IsCanonical T.numbers.least T.numbers.greatest (all_in_numbers T.numbers list.old.items) }
     requires begin_by { BeginBy (T.numbers.number range.0) (all_in_numbers T.numbers list.old.items) }
@@ -79,4 +101,40 @@ pub(crate) fn push_joined<T: Element>(list: &mut Vec<Range<T>>, range: Range<T>)
             Ok(())
         }
     }
+}
+
+/// Puts the values from `start` to below `range` behind `list`, if there are any.
+pub(crate) fn push_gap<T: Element>(
+    list: &mut Vec<Range<T>>,
+    start: T,
+    range: &Range<T>,
+) -> Result<(), NoMemory>
+    requires are_ranges { AreRanges T.numbers list.old.items }
+    requires no_later { T.numbers.number start ≤ℤ T.numbers.number range.now.0 }
+    ensures are_ranges { OnOk result (AreRanges T.numbers list.new.items) }
+    ensures pushed { OnOk result (IsGapPushed (all_in_numbers T.numbers list.old.items) (T.numbers.number start) (T.numbers.number range.now.0) (all_in_numbers T.numbers list.new.items)) }
+{
+    start.in_type();
+    if let Some(end) = range.start().predecessor() {
+        if !is_below(end, start) {
+            list.push(Range::new(start, end))?;
+        }
+    }
+    Ok(())
+}
+
+/// Puts the values in both ranges behind `list`, if there are any.
+pub(crate) fn push_common<T: Element>(
+    list: &mut Vec<Range<T>>,
+    left: &Range<T>,
+    right: &Range<T>,
+) -> Result<(), NoMemory>
+    requires { AreRanges T.numbers list.old.items }
+    ensures are_ranges { OnOk result (AreRanges T.numbers list.new.items) }
+    ensures pushed { OnOk result (IsCommonPushed (all_in_numbers T.numbers list.old.items) (in_numbers T.numbers left.now) (in_numbers T.numbers right.now) (all_in_numbers T.numbers list.new.items)) }
+{
+    if let Some(both) = left.intersection(right) {
+        list.push(both)?;
+    }
+    Ok(())
 }

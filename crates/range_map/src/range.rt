@@ -107,9 +107,21 @@ impl<T: Element> Range<T> {
         ensures range { IfSome result (IsRange T.numbers) }
         ensures none { IfNone result ((x : ℤ) → (lies_in (in_numbers T.numbers self.now) x && lies_in (in_numbers T.numbers other.now) x) ≡ false) }
     {
-        let start = if is_below(self.start, other.start) { other.start } else { self.start };
-        let end = if is_below(self.end, other.end) { self.end } else { other.end };
-        if is_below(end, start) { None } else { Some(Range { start, end }) }
+        let start = if is_below(self.start, other.start) {
+            other.start
+        } else {
+            self.start
+        };
+        let end = if is_below(self.end, other.end) {
+            self.end
+        } else {
+            other.end
+        };
+        if is_below(end, start) {
+            None
+        } else {
+            Some(Range { start, end })
+        }
     }
 
     /// The smallest range that covers both.
@@ -118,8 +130,16 @@ impl<T: Element> Range<T> {
         ensures end { T.numbers.number result.1 ≡ int_max (T.numbers.number self.now.1) (T.numbers.number other.now.1) }
         ensures range { IsRange T.numbers result }
     {
-        let start = if is_below(other.start, self.start) { other.start } else { self.start };
-        let end = if is_below(self.end, other.end) { other.end } else { self.end };
+        let start = if is_below(other.start, self.start) {
+            other.start
+        } else {
+            self.start
+        };
+        let end = if is_below(self.end, other.end) {
+            other.end
+        } else {
+            self.end
+        };
         Range { start, end }
     }
 

@@ -4,10 +4,11 @@ ghost use Rattle.number_line.specs.Ranges.{holds, IsCanonical};
 ghost use Rattle.range_map.specs.Range.{in_numbers};
 
 use crate::iter::RangeIter;
-use crate::merging::{push_joined, take_first};
+use crate::merging::{push_common, push_gap, push_joined, take_first};
 use crate::range::Range;
-use element_core::{Element, NoMemory};
+use element_core::{Element, NoMemory, is_below};
 use std::alloc::Global;
+use std::hash::{Hash, Hasher};
 use std::marker::Model;
 
 /// A set of values, kept as the fewest ranges that hold them, ascending: each begins two or more past the end of
@@ -92,6 +93,15 @@ impl<T: Element> RangeSet<T> {
         }
     }
 
+    /// Whether `value` is a member. Takes O(log n) time for n ranges, and no memory.
+    pub fn contains(&self, value: T) -> bool
+        ensures { result ≡ holds self.now (T.numbers.number value) }
+    {
+        self.ranges
+            .binary_search_by(|range| range.cmp_element(value))
+            .is_ok()
+    }
+
     /// The set of the values that are members of either set. Takes O(n + m) time for n and m ranges.
     pub fn union(&self, alloc: Global, other: &Self) -> Result<Self, NoMemory>
         ensures canonical { IfOk result (IsCanonical T.numbers.least T.numbers.greatest) }
@@ -108,6 +118,49 @@ impl<T: Element> RangeSet<T> {
         Ok(RangeSet { ranges })
     }
 
+    /// The set of the values that are members of both sets. Takes O(n + m) time for n and m ranges.
+    pub fn intersection(&self, alloc: Global, other: &Self) -> Result<Self, NoMemory>
+        ensures canonical { IfOk result (IsCanonical T.numbers.least T.numbers.greatest) }
+        ensures members { IfOk result (λ set. (x : ℤ) → holds set x ≡ (holds self.now x && holds other.now x)) }
+    {
+        let mut left = self.ranges.as_slice();
+        let mut right = other.ranges.as_slice();
+        let mut ranges = Vec::with_capacity(alloc, left.len().saturating_add(right.len()))?;
+        while let Some((first, after_first)) = left.split_first() {
+            let Some((second, after_second)) = right.split_first() else {
+                return Ok(RangeSet { ranges });
+            };
+            push_common(&mut ranges, first, second)?;
+            if is_below(first.end(), second.end()) {
+                left = after_first;
+            } else {
+                right = after_second;
+            }
+        }
+        Ok(RangeSet { ranges })
+    }
+
+    /// The set of the values that aren't members, the two ends of the type included. Takes O(n) time for n ranges.
+    pub fn negated(&self, alloc: Global) -> Result<Self, NoMemory>
+        ensures canonical { IfOk result (IsCanonical T.numbers.least T.numbers.greatest) }
+        ensures members { IfOk result (λ set. (x : ℤ) → T.numbers.least ≤ℤ x → x ≤ℤ T.numbers.greatest → holds set x ≡ not (holds self.now x)) }
+    {
+        let mut ranges = Vec::with_capacity(alloc, self.ranges.len().saturating_add(1))?;
+        let mut start = T::min_value();
+        let mut rest = self.ranges.as_slice();
+        while let Some((range, behind)) = rest.split_first() {
+            push_gap(&mut ranges, start, range)?;
+            match range.end().successor() {
+                Some(next) => start = next,
+                None => return Ok(RangeSet { ranges }),
+            }
+            rest = behind;
+        }
+        start.in_type();
+        ranges.push(Range::new(start, T::max_value()))?;
+        Ok(RangeSet { ranges })
+    }
+
     /// A set equal to this one. Takes O(n) time for n ranges.
     pub fn try_clone(&self, alloc: Global) -> Result<Self, NoMemory>
         ensures canonical { IfOk result (IsCanonical T.numbers.least T.numbers.greatest) }
@@ -116,5 +169,37 @@ impl<T: Element> RangeSet<T> {
         let mut ranges = Vec::with_capacity(alloc, self.ranges.len())?;
         ranges.extend_from_slice(self.ranges.as_slice())?;
         Ok(RangeSet { ranges })
+    }
+}
+
+impl<T: Element> PartialEq for RangeSet<T> {
+    ghost use Rattle.std.specs.Cmp.{partial_equiv_from_equiv};
+    ghost use Rattle.range_map.specs.SetLaws.{same_ranges, same_ranges_equivalence};
+
+    ghost eq = { same_ranges };
+
+    ghost laws = { partial_equiv_from_equiv same_ranges_equivalence };
+
+    fn eq(&self, other: &RangeSet<T>) -> bool {
+        self.ranges == other.ranges
+    }
+}
+
+impl<T: Element> Eq for RangeSet<T> {
+    ghost use Rattle.range_map.specs.SetLaws.{same_ranges_equivalence};
+
+    ghost laws = { same_ranges_equivalence };
+}
+
+impl<T: Element + Hash> Hash for RangeSet<T> {
+    ghost use Rattle.std.proofs.Common.{ap};
+    ghost use Rattle.range_map.specs.SetLaws.{ranges_fed, same_ranges_decides};
+
+    ghost hash_input = { ranges_fed T.numbers T.hash_input };
+
+    ghost respects_eq = { λ x y equal. ap (ranges_fed T.numbers T.hash_input) ((same_ranges_decides x y).0 equal) };
+
+    fn hash<H: Hasher>(&self, state: &mut H) {
+        self.ranges.hash(state);
     }
 }
