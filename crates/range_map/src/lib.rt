@@ -1,11 +1,15 @@
 //! Inclusive ranges of a numbered type, and sets of its values kept as ranges.
 #![tactic(auto)]
 
+#[cfg(test)]
+mod callers;
 mod iter;
 pub mod laws;
 mod merging;
 mod range;
 mod set;
+#[cfg(test)]
+mod tests;
 
 pub use iter::RangeIter;
 pub use range::Range;
