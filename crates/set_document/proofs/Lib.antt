@@ -1,0 +1,6 @@
+pub mod AnswerLemmas
+pub mod CutLemmas
+pub mod EvaluateLemmas
+pub mod NumberLemmas
+pub mod ReaderLemmas
+pub mod TruthLemmas

@@ -1,0 +1,8 @@
+-- What is written, and what the lines left will add, is the whole.
+use Rattle.std.proofs.Common.{◌≡◌, ◌++◌, drop}
+use Rattle.set_document.specs.Answer.{lines_text}
+use Rattle.set_document.specs.Lines.{shown_lines}
+use Rattle.set_document.proofs.answer.Answer.print.Given as goal
+
+abbrev pub invariant-loop-line : goal.invariant-loop-line
+invariant-loop-line l = l.out.items ++ lines_text (shown_lines (drop l.line-index l.line-items)) ≡ lines_text (shown_lines l.line-items)

@@ -1,0 +1,34 @@
+-- What the answer to a document says, and how it is written.
+use Rattle.std.specs.Prelude.{ℕ, ℤ, List, [], ◌∷◌, ◌++◌, map, flat_map, codes}
+use Rattle.std.specs.Fmt.{signed_decimal}
+use Rattle.set_document.specs.Numbers.{i64_runs}
+use Rattle.set_document.specs.Truth.{named}
+
+-- a range as it is written in a document
+abbrev pub range_text : ℤ × ℤ → List ℕ
+range_text r = signed_decimal r.0 ++ (codes "..=" ++ signed_decimal r.1)
+
+-- the ranges after the first, each joined to those before it by `|`
+abbrev pub further_text : List (ℤ × ℤ) → List ℕ
+further_text [] = []
+further_text (r ∷ rs) = codes " " ++ (range_text r ++ (codes " |" ++ further_text rs))
+
+-- a list of ranges as the words that make it
+abbrev pub list_text : List (ℤ × ℤ) → List ℕ
+list_text [] = codes "empty"
+list_text (r ∷ rs) = range_text r ++ further_text rs
+
+-- a name and its ranges on a line
+abbrev pub line_text : List ℕ × List (ℤ × ℤ) → List ℕ
+line_text l = l.0 ++ (codes ": " ++ (list_text l.1 ++ codes "\n"))
+
+abbrev pub lines_text : List (List ℕ × List (ℤ × ℤ)) → List ℕ
+lines_text ls = flat_map line_text ls
+
+-- the named lines of a text in order, each with its name and the maximal runs of the numbers at which it is true
+unfoldable pub listed : List ℕ → List (List ℕ × List (ℤ × ℤ))
+listed text = map (λ l. (l.0, i64_runs l.1)) (named text)
+
+-- what is written for a text without a fault: its list lines
+unfoldable pub answer : List ℕ → List ℕ
+answer text = lines_text (listed text)

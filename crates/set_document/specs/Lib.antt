@@ -1,0 +1,10 @@
+pub mod Numbers
+pub mod Text
+pub mod Truth
+pub mod Faults
+pub mod FaultText
+pub mod Answer
+pub mod Words
+pub mod Lines
+pub mod Steps
+pub mod Laws

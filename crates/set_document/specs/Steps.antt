@@ -1,0 +1,26 @@
+-- What one word, and the words of a line, do to the evaluator's stack.
+use Rattle.std.specs.Prelude.{◌≡◌, ℕ, ◌+◌, Some, None, ℤ, ◌≤ℤ◌, ◌⊎◌, Bool, List, length, Option}
+use Rattle.set_document.specs.Numbers.{least, greatest}
+use Rattle.set_document.specs.Text.{Kind}
+use Rattle.set_document.specs.Truth.{after_word}
+use Rattle.set_document.specs.Faults.{Step, Fault}
+use Rattle.set_document.specs.Lines.{values}
+use Rattle.set_document.specs.declared.fault.AlgebraError.{AlgebraError}
+use Rattle.set_document.specs.declared.fault.AlgebraError.TheVariants as fault
+
+-- the stack after a word is what the word makes of it, at each number of the type, whatever the earlier lines give there
+abbrev pub IsStep : Option Kind → List (List (ℤ × ℤ)) → List (List (ℤ × ℤ)) → Type 0
+IsStep word before after = (earlier : List (List ℕ × Bool)) (x : ℤ) → least ≤ℤ x → x ≤ℤ greatest → values after x ≡ after_word earlier x (values before x) word
+
+-- e is want of memory, or the fault at the word
+abbrev pub IsFault : Step → AlgebraError → Type 0
+IsFault step e = (e ≡ fault.NoMemory) ⊎ (step ≡ Fault e)
+
+-- e is want of memory, or the first fault
+abbrev pub IsFirstFault : Option AlgebraError → AlgebraError → Type 0
+IsFirstFault first e = (e ≡ fault.NoMemory) ⊎ (first ≡ Some e)
+
+-- how many bytes are left, with one for the space before them
+abbrev pub left_len : Option (List ℕ) → ℕ
+left_len None = 0
+left_len (Some rest) = length rest + 1

@@ -1,0 +1,202 @@
+//! Evaluates the lines of a document, with a stack of sets for each.
+ghost use Rattle.std.specs.Prelude.{◌≡◌, ℕ, ◌+◌, ◌<◌, ◌≤◌, ℤ, Bool, ◌≤ℤ◌, [], ◌∷◌, ◌++◌, IfOk, IfErr, OnOk, MatchOption, length, List, Option, option_map, option_copied, Some, None};
+ghost use Rattle.number_line.specs.Ranges.{holds, IsCanonical};
+ghost use Rattle.set_document.specs.Numbers.{least, greatest};
+ghost use Rattle.set_document.specs.Text.{words, form, so_far, Not, Or, And};
+ghost use Rattle.set_document.specs.Truth.{after_form, named, truth};
+ghost use Rattle.set_document.specs.Faults.{judge_word, fault_in_words, fault_in_form, names_after, first_fault, Depth};
+ghost use Rattle.set_document.specs.Words.{shown};
+ghost use Rattle.set_document.specs.Lines.{lines_of, names_of, Agree, AllCanonical};
+ghost use Rattle.set_document.specs.Steps.{IsStep, IsFault, IsFirstFault};
+ghost use Rattle.set_document.specs.declared.fault.AlgebraError.TheVariants as AlgebraError;
+
+use crate::fault::AlgebraError;
+use crate::line::{LineForm, cut_line, cut_piece, read_line};
+use crate::word::{Name, Word, read_any_word};
+use element_core::NoMemory;
+use range_map::{Range, RangeSet};
+use std::alloc::Global;
+
+/// A named line and the set that its words leave.
+#[derive(Drop)]
+pub(crate) struct Line<'t> {
+    pub(crate) name: Name<'t>,
+    pub(crate) set: RangeSet<i64>,
+}
+
+fn push_set(stack: &mut Vec<RangeSet<i64>>, set: RangeSet<i64>) -> Result<(), AlgebraError>
+    ensures pushed { OnOk result (stack.new.items ≡ stack.old.items ++ set ∷ []) }
+    ensures memory { IfErr result (λ e. e ≡ AlgebraError.NoMemory) }
+{
+    stack.push(set)?;
+    Ok(())
+}
+
+// The last set and the one before it, taken off the stack. Where there is one alone it is gone.
+fn pop_two(stack: &mut Vec<RangeSet<i64>>) -> Option<(RangeSet<i64>, RangeSet<i64>)>
+    ensures { MatchOption result (length stack.old.items < 2) (λ p. stack.old.items ≡ stack.new.items ++ p.0 ∷ p.1 ∷ []) }
+{
+    let second = stack.pop()?;
+    let first = stack.pop()?;
+    Some((first, second))
+}
+
+#[tactic(auto, unfolding(crate::specs::Numbers::least, crate::specs::Numbers::greatest))]
+fn apply_not(
+    alloc: Global,
+    stack: &mut Vec<RangeSet<i64>>,
+    line: usize,
+    word: usize,
+) -> Result<(), AlgebraError>
+    ensures depth { OnOk result (judge_word [] line word (length stack.old.items) (Some Not) ≡ Depth (length stack.new.items)) }
+    ensures step { OnOk result (IsStep (Some Not) stack.old.items stack.new.items) }
+    ensures fault { IfErr result (IsFault (judge_word [] line word (length stack.old.items) (Some Not))) }
+{
+    let Some(set) = stack.pop() else {
+        return Err(AlgebraError::StackShort { line, word });
+    };
+    push_set(stack, set.negated(alloc)?)
+}
+
+fn apply_or(
+    alloc: Global,
+    stack: &mut Vec<RangeSet<i64>>,
+    line: usize,
+    word: usize,
+) -> Result<(), AlgebraError>
+    ensures depth { OnOk result (judge_word [] line word (length stack.old.items) (Some Or) ≡ Depth (length stack.new.items)) }
+    ensures step { OnOk result (IsStep (Some Or) stack.old.items stack.new.items) }
+    ensures fault { IfErr result (IsFault (judge_word [] line word (length stack.old.items) (Some Or))) }
+{
+    let Some((first, second)) = pop_two(stack) else {
+        return Err(AlgebraError::StackShort { line, word });
+    };
+    push_set(stack, first.union(alloc, &second)?)
+}
+
+fn apply_and(
+    alloc: Global,
+    stack: &mut Vec<RangeSet<i64>>,
+    line: usize,
+    word: usize,
+) -> Result<(), AlgebraError>
+    ensures depth { OnOk result (judge_word [] line word (length stack.old.items) (Some And) ≡ Depth (length stack.new.items)) }
+    ensures step { OnOk result (IsStep (Some And) stack.old.items stack.new.items) }
+    ensures fault { IfErr result (IsFault (judge_word [] line word (length stack.old.items) (Some And))) }
+{
+    let Some((first, second)) = pop_two(stack) else {
+        return Err(AlgebraError::StackShort { line, word });
+    };
+    push_set(stack, first.intersection(alloc, &second)?)
+}
+
+// What one word does to the stack.
+#[tactic(auto, unfolding(crate::specs::Numbers::least, crate::specs::Numbers::greatest))]
+fn apply_word(
+    alloc: Global,
+    stack: &mut Vec<RangeSet<i64>>,
+    line: usize,
+    word: usize,
+    found: Option<Word<'_>>,
+) -> Result<(), AlgebraError>
+    ensures depth { (known : List (List ℕ)) → OnOk result (judge_word known line word (length stack.old.items) (so_far (option_map shown found.entry)) ≡ Depth (length stack.new.items)) }
+    ensures step { OnOk result (IsStep (option_map shown found.entry) stack.old.items stack.new.items) }
+    ensures fault { (known : List (List ℕ)) → IfErr result (IsFault (judge_word known line word (length stack.old.items) (so_far (option_map shown found.entry)))) }
+{
+    match found {
+        Some(Word::Number(n)) => push_set(stack, RangeSet::single(alloc, n)?),
+        Some(Word::Span(start, end)) => {
+            if end < start {
+                return Err(AlgebraError::Reversed { line, word });
+            }
+            push_set(stack, RangeSet::from_range(alloc, Range::new(start, end))?)
+        }
+        Some(Word::Empty) => push_set(stack, RangeSet::new(alloc)),
+        Some(Word::Full) => push_set(stack, RangeSet::full(alloc)?),
+        Some(Word::Not) => apply_not(alloc, stack, line, word),
+        Some(Word::Or) => apply_or(alloc, stack, line, word),
+        Some(Word::And) => apply_and(alloc, stack, line, word),
+        Some(Word::Named(_) | Word::Minus | Word::Xor) | None => {
+            Err(AlgebraError::BadWord { line, word })
+        }
+    }
+}
+
+// The set that a line's words leave.
+#[tactic(auto, unfolding(crate::specs::Numbers::least, crate::specs::Numbers::greatest))]
+fn evaluate_words(
+    alloc: Global,
+    line: usize,
+    rest: Option<&[u8]>,
+) -> Result<RangeSet<i64>, AlgebraError>
+    ensures fault_free { (known : List (List ℕ)) → OnOk result (fault_in_words known line 1 0 (words (option_copied rest.entry)) ≡ None) }
+    ensures canonical { IfOk result (IsCanonical least greatest) }
+    ensures truth { (earlier : List (List ℕ × (ℤ → Bool))) → IfOk result (λ s. (x : ℤ) → least ≤ℤ x → x ≤ℤ greatest
+        → holds s x ≡ truth earlier (words (option_copied rest.entry)) x) }
+    ensures fault { (known : List (List ℕ)) → IfErr result (IsFirstFault (fault_in_words known line 1 0 (words (option_copied rest.entry)))) }
+{
+    let mut stack: Vec<RangeSet<i64>> = Vec::new(alloc);
+    let mut left = rest;
+    let mut word = 1;
+    while let Some(bytes) = left {
+        let (piece, after) = cut_piece(bytes);
+        apply_word(alloc, &mut stack, line, word, read_any_word(piece))?;
+        left = after;
+        word += 1;
+    }
+    match stack.pop() {
+        Some(set) if stack.is_empty() => {
+            // Reading a set tells that it is canonical.
+            let _ = set.ranges();
+            Ok(set)
+        }
+        _ => Err(AlgebraError::NotOne { line }),
+    }
+}
+
+// Judges one line, and keeps its set where it is a named one.
+fn add_line<'t>(
+    alloc: Global,
+    done: &mut Vec<Line<'t>>,
+    line: usize,
+    piece: &'t [u8],
+) -> Result<(), AlgebraError>
+    ensures fault_free { OnOk result (fault_in_form (names_of done.old.items) line (form piece.now) ≡ None) }
+    ensures names { OnOk result (names_of done.new.items ≡ names_after (names_of done.old.items) (form piece.now)) }
+    ensures lines { OnOk result (Agree (lines_of done.new.items) (after_form (lines_of done.old.items) (form piece.now))) }
+    ensures canonical { AllCanonical done.old.items → OnOk result (AllCanonical done.new.items) }
+    ensures fault { IfErr result (IsFirstFault (fault_in_form (names_of done.old.items) line (form piece.now))) }
+{
+    match read_line(piece) {
+        LineForm::Comment => Ok(()),
+        LineForm::Named(name, words) => {
+            let set = evaluate_words(alloc, line, words)?;
+            done.push(Line { name, set })?;
+            Ok(())
+        }
+        LineForm::Bad => Err(AlgebraError::BadLine { line }),
+    }
+}
+
+// The named lines of a text with their sets, or its first fault.
+#[tactic(auto, unfolding(crate::specs::Faults::first_fault, crate::specs::Truth::named))]
+pub(crate) fn evaluate_lines<'t>(
+    alloc: Global,
+    text: &'t [u8],
+) -> Result<Vec<Line<'t>>, AlgebraError>
+    ensures fault_free { OnOk result (first_fault text.now ≡ None) }
+    ensures lines { IfOk result (λ v. Agree (lines_of v.items) (named text.now)) }
+    ensures canonical { IfOk result (λ v. AllCanonical v.items) }
+    ensures fault { IfErr result (IsFirstFault (first_fault text.now)) }
+{
+    let mut done: Vec<Line<'t>> = Vec::new(alloc);
+    let mut rest = text;
+    let mut line = 1;
+    while !rest.is_empty() {
+        let (piece, after) = cut_line(rest);
+        add_line(alloc, &mut done, line, piece)?;
+        rest = after;
+        line += 1;
+    }
+    Ok(done)
+}

@@ -1,0 +1,21 @@
+//! A document of named sets: its lines and words, what they mean, its first fault, and its answer.
+//!
+//! A document is bytes. Each line that isn't a comment gives a name to a set of `i64` numbers, written as words
+//! in postfix order: `a: 1..=5 4..=8 |`. The answer writes each named set as ascending ranges.
+#![tactic(auto)]
+
+mod answer;
+mod evaluator;
+mod fault;
+pub mod laws;
+mod line;
+mod number;
+mod print;
+mod truth;
+mod word;
+
+pub use answer::{Answer, evaluate, evaluate_document};
+pub use fault::AlgebraError;
+pub use line::{LineForm, read_line};
+pub use truth::truths_at;
+pub use word::{Name, Word, read_word};
