@@ -8,3 +8,6 @@ mod memory;
 
 pub use element::{Element, compare, is_below};
 pub use memory::{NoMemory, Refused};
+
+#[cfg(test)]
+mod tests;

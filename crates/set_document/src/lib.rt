@@ -19,3 +19,6 @@ pub use fault::AlgebraError;
 pub use line::{LineForm, read_line};
 pub use truth::truths_at;
 pub use word::{Name, Word, read_word};
+
+#[cfg(test)]
+mod tests;
