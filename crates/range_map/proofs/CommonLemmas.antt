@@ -1,6 +1,7 @@
 -- The numbers that two canonical lists both hold.
 use Rattle.std.proofs.Common.{◌≡◌, List, [], ◌∷◌, ◌++◌, refl, ap, arith, sym, ◌∙◌, inl, inr}
-use Rattle.std.specs.Prelude.{ℤ, pos, ◌+ℤ◌, ◌-ℤ◌, ◌≤ℤ◌, ◌<ℤ◌, Bool, true, false, ◌&&◌, ◌||◌, int_le}
+use Rattle.std.specs.Prelude.{ℤ, pos, ◌+ℤ◌, ◌-ℤ◌, ◌≤ℤ◌, ◌<ℤ◌, Bool, true, false, not, ◌&&◌, ◌||◌, int_le}
+use Rattle.std.specs.Bool.{MatchBool, OnTrue}
 use Rattle.std.specs.Int.{int_min, int_max}
 use Rattle.std.proofs.lemmas.Int.{ints, by_lt_z}
 use Rattle.std.proofs.lemmas.Grind.{common_steps}
@@ -19,6 +20,15 @@ pub record IsCommon (lo hi : ℤ) (a b out left right : List (ℤ × ℤ)) : Typ
   pub top : ℤ
   pub canonical : IsCanonical lo top out
   pub past : (x : ℤ) → x ≤ℤ (top +ℤ pos 1) → (holds left x && holds right x) ≡ false
+
+greater_start : (p q : ℤ × ℤ) → p.0 ≤ℤ p.1 → q.0 ≤ℤ q.1 → p.0 ≤ℤ q.1 → q.0 ≤ℤ p.1 → (lies_in p (int_max p.0 q.0) && lies_in q (int_max p.0 q.0)) ≡ true
+greater_start p q e f g h = grind (arith, ints)
+
+-- each range begins by the end of the other, and so both hold a number
+pub shared_number : (b : Bool) (p q : ℤ × ℤ) → p.0 ≤ℤ p.1 → q.0 ≤ℤ q.1 → p.0 ≤ℤ q.1 → MatchBool b (p.1 <ℤ q.0) (q.0 ≤ℤ p.1)
+    → OnTrue (not b) ((x : ℤ) × ((lies_in p x && lies_in q x) ≡ true))
+shared_number true p q e f g h = tt
+shared_number false p q e f g h = (int_max p.0 q.0, greater_start p q e f g h)
 
 both_first : (x a b c d : ℤ) → (int_le (int_max a c) x && int_le x (int_min b d)) ≡ ((int_le a x && int_le x b) && (int_le c x && int_le x d))
 both_first x a b c d = grind (arith, ints)

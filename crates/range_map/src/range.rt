@@ -1,5 +1,6 @@
 //! Inclusive ranges, each by its first and its last value.
-ghost use Rattle.std.specs.Prelude.{◌≡◌, ℤ, ◌≤ℤ◌, ◌&&◌, int_le, IfSome, IfNone, IsTrue, ◌↔◌, false};
+ghost use Rattle.std.specs.Prelude.{◌≡◌, ℤ, ◌≤ℤ◌, ◌&&◌, IfSome, IfNone, true, false};
+ghost use Rattle.std.specs.Bool.{OnTrue, OnFalse};
 ghost use Rattle.std.specs.Int.{int_min, int_max};
 ghost use Rattle.number_line.specs.Ranges.{lies_in};
 ghost use Rattle.range_map.specs.Range.{IsRange, in_numbers, place_beside};
@@ -95,7 +96,8 @@ impl<T: Element> Range<T> {
 
     /// Whether some value lies in both ranges.
     pub fn intersects(&self, other: &Self) -> bool
-        ensures { result ≡ (int_le (T.numbers.number self.now.0) (T.numbers.number other.now.1) && int_le (T.numbers.number other.now.0) (T.numbers.number self.now.1)) }
+        ensures shared { OnTrue result ((x : ℤ) × ((lies_in (in_numbers T.numbers self.now) x && lies_in (in_numbers T.numbers other.now) x) ≡ true)) }
+        ensures apart { OnFalse result ((x : ℤ) → (lies_in (in_numbers T.numbers self.now) x && lies_in (in_numbers T.numbers other.now) x) ≡ false) }
     {
         !is_below(other.end, self.start) && !is_below(self.end, other.start)
     }

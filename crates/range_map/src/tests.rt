@@ -34,62 +34,64 @@ fn hash_of<T: Hash>(value: &T) -> u64 {
     state.finish()
 }
 
-/// The sets at the two ends of a type of 3 values or more.
-fn reaches_both_ends<T: Element>(rt: &impl Abort, alloc: Global) -> Result<(), NoMemory> {
-    let least = T::min_value();
-    let greatest = T::max_value();
+fn empty_and_full<T: Element>(rt: &impl Abort, alloc: Global) -> Result<(), NoMemory> {
     let empty = RangeSet::<T>::new(alloc);
     let full = RangeSet::<T>::full(alloc)?;
-    assert!(rt; empty.is_empty() && !full.is_empty());
-    assert!(rt; empty.num_ranges() == 0 && full.num_ranges() == 1);
-    assert!(rt; full.negated(alloc)? == empty);
-    assert!(rt; empty.negated(alloc)? == full);
-    assert!(rt; full.contains(least) && full.contains(greatest));
-    assert!(rt; !empty.contains(least) && !empty.contains(greatest));
-
-    let only_least = RangeSet::single(alloc, least)?;
-    let only_greatest = RangeSet::single(alloc, greatest)?;
-    match greatest.predecessor() {
-        None => assert!(rt; false),
-        Some(before) => {
-            before.in_type();
-            let others = RangeSet::from_range(alloc, Range::new(least, before))?;
-            assert!(rt; others.negated(alloc)? == only_greatest);
-            assert!(rt; only_greatest.negated(alloc)? == others);
-            assert!(rt; others.union(alloc, &only_greatest)? == full);
-            assert!(rt; others.intersection(alloc, &only_greatest)?.is_empty());
-            assert!(rt; others.contains(before) && !others.contains(greatest));
-        }
-    }
-    match least.successor() {
-        None => assert!(rt; false),
-        Some(after) => {
-            after.in_type();
-            let others = RangeSet::from_range(alloc, Range::new(after, greatest))?;
-            assert!(rt; others.negated(alloc)? == only_least);
-            assert!(rt; only_least.negated(alloc)? == others);
-            assert!(rt; only_least.union(alloc, &others)? == full);
-            assert!(rt; only_least.intersection(alloc, &others)?.is_empty());
-            assert!(rt; others.contains(after) && !others.contains(least));
-        }
-    }
+    assert!(rt; empty.is_empty() && empty.num_ranges() == 0);
+    assert!(rt; !full.is_empty() && full.num_ranges() == 1);
+    assert!(rt; full.contains(T::min_value()) && full.contains(T::max_value()));
+    assert!(rt; !empty.contains(T::min_value()) && !empty.contains(T::max_value()));
+    assert!(rt; full.negated(alloc)? == empty && empty.negated(alloc)? == full);
     Ok(())
+}
+
+/// `others` holds all values but `one`, which is the least or the greatest.
+fn all_but_one<T: Element>(
+    rt: &impl Abort,
+    alloc: Global,
+    others: &RangeSet<T>,
+    one: T,
+) -> Result<(), NoMemory> {
+    let only_one = RangeSet::single(alloc, one)?;
+    assert!(rt; only_one.contains(one) && !others.contains(one));
+    assert!(rt; others.negated(alloc)? == only_one && only_one.negated(alloc)? == *others);
+    assert!(rt; others.union(alloc, &only_one)? == RangeSet::full(alloc)?);
+    assert!(rt; only_one.union(alloc, others)? == RangeSet::full(alloc)?);
+    assert!(rt; others.intersection(alloc, &only_one)?.is_empty());
+    Ok(())
+}
+
+fn reaches_both_ends<T: Element>(rt: &impl Abort, alloc: Global) -> Result<(), NoMemory> {
+    empty_and_full::<T>(rt, alloc)?;
+    let least = T::min_value();
+    let greatest = T::max_value();
+    let (Some(after), Some(before)) = (least.successor(), greatest.predecessor()) else {
+        assert!(rt; false);
+        return Ok(());
+    };
+    after.in_type();
+    before.in_type();
+    let but_greatest = RangeSet::from_range(alloc, Range::new(least, before))?;
+    all_but_one(rt, alloc, &but_greatest, greatest)?;
+    let but_least = RangeSet::from_range(alloc, Range::new(after, greatest))?;
+    all_but_one(rt, alloc, &but_least, least)
 }
 
 #[test]
 fn sets_are_exact_at_both_ends_of_each_type(rt: HostRuntime) -> Result<(), Fail> {
-    reaches_both_ends::<i8>(&rt, rt.alloc())?;
-    reaches_both_ends::<i16>(&rt, rt.alloc())?;
-    reaches_both_ends::<i32>(&rt, rt.alloc())?;
-    reaches_both_ends::<i64>(&rt, rt.alloc())?;
-    reaches_both_ends::<i128>(&rt, rt.alloc())?;
-    reaches_both_ends::<isize>(&rt, rt.alloc())?;
-    reaches_both_ends::<u8>(&rt, rt.alloc())?;
-    reaches_both_ends::<u16>(&rt, rt.alloc())?;
-    reaches_both_ends::<u32>(&rt, rt.alloc())?;
-    reaches_both_ends::<u64>(&rt, rt.alloc())?;
-    reaches_both_ends::<u128>(&rt, rt.alloc())?;
-    reaches_both_ends::<usize>(&rt, rt.alloc())?;
+    let alloc = rt.alloc();
+    reaches_both_ends::<i8>(&rt, alloc)?;
+    reaches_both_ends::<i16>(&rt, alloc)?;
+    reaches_both_ends::<i32>(&rt, alloc)?;
+    reaches_both_ends::<i64>(&rt, alloc)?;
+    reaches_both_ends::<i128>(&rt, alloc)?;
+    reaches_both_ends::<isize>(&rt, alloc)?;
+    reaches_both_ends::<u8>(&rt, alloc)?;
+    reaches_both_ends::<u16>(&rt, alloc)?;
+    reaches_both_ends::<u32>(&rt, alloc)?;
+    reaches_both_ends::<u64>(&rt, alloc)?;
+    reaches_both_ends::<u128>(&rt, alloc)?;
+    reaches_both_ends::<usize>(&rt, alloc)?;
     Ok(())
 }
 
