@@ -1,3 +1,4 @@
 pub mod TakeLemmas
 pub mod StreamLemmas
 pub mod WalkSteps
+pub mod SourceLists

@@ -91,19 +91,21 @@ module _ {U S T A : Type 0} (left both right : Bool) (f : List A → List A → 
   }
 
   walk-runs : RunsAre cmp f (Through sides (StepsTwo (walk cmp left both right) firsts seconds)) s firsts x seconds y
-  walk-runs p on at =
-      let d = took p in
-      let start : sides p.from ≡ sides_of x y = ap sides at ∙ fresh in
-      let m = behind (walk cmp left both right) firsts seconds x y p.items p.whole
-          (sides d.0, subst (λ k. Yields (StepsTwo (walk cmp left both right) firsts seconds) k p.items (sides d.0)) start (through-yields sides (StepsTwo (walk cmp left both right) firsts seconds) p.items p.from d.0 d.1), λ w. (sides (d.2 w).0, (d.2 w).1)) in (
-        run firsts x m.us m.left_whole m.left_ran,
-        refl,
-        (
-          run seconds y m.vs m.right_whole m.right_ran,
-          refl,
-          record { front = λ xs ys i j c e. subst (Begins p.whole p.items) (equal _ _ c e) (m.front xs ys i j) },
-        ),
-      )
+  walk-runs = record {
+    behind = λ p on at.
+        let d = took p in
+        let start : sides p.from ≡ sides_of x y = ap sides at ∙ fresh in
+        let m = behind (walk cmp left both right) firsts seconds x y p.items p.whole
+            (sides d.0, subst (λ k. Yields (StepsTwo (walk cmp left both right) firsts seconds) k p.items (sides d.0)) start (through-yields sides (StepsTwo (walk cmp left both right) firsts seconds) p.items p.from d.0 d.1), λ w. (sides (d.2 w).0, (d.2 w).1)) in (
+          run firsts x m.us m.left_whole m.left_ran,
+          refl {a = x},
+          (
+            run seconds y m.vs m.right_whole m.right_ran,
+            refl {a = y},
+            record { front = λ xs ys i j c e. subst (Begins p.whole p.items) (equal _ _ c e) (m.front xs ys i j) },
+          ),
+        );
+  }
 
 module _ {U S T A : Type 0} {cmp : A → A → Ordering} (o : IsTotalOrder cmp) (firsts : S → Option A → S → Type 0) (seconds : T → Option A → T → Type 0) (sides : U → Sides S T A A) (s : U) (x : S) (y : T) (fresh : sides s ≡ sides_of x y) where
   pub union-runs : RunsAre cmp (union cmp) (Through sides (StepsTwo (walk cmp true true true) firsts seconds)) s firsts x seconds y

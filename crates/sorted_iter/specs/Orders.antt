@@ -32,8 +32,8 @@ pub record GivesOf {S T U A : Type 0} {steps : U → Option A → U → Type 0} 
 
 module _ {S T U A : Type 0} (cmp : A → A → Ordering) (f : List A → List A → List A) (steps : U → Option A → U → Type 0) (s : U) (firsts : S → Option A → S → Type 0) (x : S) (seconds : T → Option A → T → Type 0) (y : T) where
   -- behind each run of the stream s stand runs of its sources x and y, and the stream gives f of what they give
-  abbrev pub RunsAre : Type 0
-  RunsAre = EachRunFrom steps s (λ p. SomeRun firsts x (λ a. SomeRun seconds y (λ b. GivesOf cmp f p a b)))
+  pub record RunsAre : Type 0 where
+    pub behind : EachRunFrom steps s (λ p. SomeRun firsts x (λ a. SomeRun seconds y (λ b. GivesOf cmp f p a b)))
 
   -- where the items to come from x and y are the ascending lists xs and ys, those to come from the stream s are f xs ys
   abbrev pub ListsAre : Type 0

@@ -17,3 +17,6 @@ pub use crate::marks::{AssumeSortedByItem, AssumeSortedByItemExt, SortedByItem, 
 pub use crate::sides::{Sides, Wants};
 pub use crate::symmetric_difference::SymmetricDifference;
 pub use crate::union::Union;
+
+#[cfg(test)]
+mod tests;
