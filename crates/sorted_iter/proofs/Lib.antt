@@ -2,3 +2,4 @@ pub mod TakeLemmas
 pub mod StreamLemmas
 pub mod WalkSteps
 pub mod SourceLists
+pub mod Literals

@@ -1,8 +1,6 @@
-use Rattle.std.proofs.Common.{rules, ◌∙◌, sym, subst}
-use Rattle.ordered_lists.specs.Lists.{symmetric_difference}
-use Rattle.sorted_iter.specs.Orders.{GivesList}
+use Rattle.std.proofs.Common.{rules, ◌∙◌, sym}
 use Rattle.sorted_iter.proofs.SourceLists.{list-of_copied, items-of_loop}
-use Rattle.sorted_iter.proofs.tests.pushed.Goals as goal
+use Rattle.sorted_iter.proofs.tests.symmetric_difference_of.Goals as goal
 
 pub returns : goal.returns
 returns g c =
