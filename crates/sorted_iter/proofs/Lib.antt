@@ -1,0 +1,5 @@
+pub mod TakeLemmas
+pub mod StreamLemmas
+pub mod WalkSteps
+pub mod SourceLists
+pub mod Literals

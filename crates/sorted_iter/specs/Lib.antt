@@ -1,0 +1,9 @@
+pub mod Orders
+pub mod Lookahead
+pub mod TwoSides
+pub mod Streams
+pub mod LookaheadLemmas
+pub mod TwoSidesLemmas
+pub mod Laws
+pub mod Sources
+pub mod RangeLaws

@@ -1,0 +1,70 @@
+-- When the items of a source are in order: what a caller cites at `assume_sorted_by_item`.
+use Rattle.std.proofs.Common.{◌≡◌, ℕ, suc, zero, ◌+◌, List, [], ◌∷◌, ◌++◌, Option, Some, None, MatchOption, length, refl, sym, ap, subst, ◌∙◌, arith, map}
+use Rattle.std.specs.Iterator.{Yields, YieldsFirstRef}
+use Rattle.std.specs.List.{AllByRecursion}
+use Rattle.std.specs.List.Sorted.{IsStrictlySortedBy}
+use Rattle.std.specs.declared.cmp.Ordering.{Ordering}
+use Rattle.std.specs.declared.cmp.Ordering.TheVariants.{Less}
+use Rattle.std.specs.declared.vec.IntoIter.{IntoIter}
+use Rattle.std.specs.declared.slice.Iter.{Iter}
+use Rattle.std.specs.declared.iter.Copied.{Copied}
+use Rattle.std.specs.Vec.Iter.{into_iter_steps, into_iter_items, into_iter_len}
+use Rattle.std.specs.Slice.Iter.{iter_rest, iter_steps}
+use Rattle.std.specs.Iterator.Adapters.{copied_steps, copied_source}
+use Rattle.std.specs.Borrow.{Bor}
+use Rattle.std.specs.Option.{option_copied}
+use Rattle.ordered_lists.proofs.WalkLemmas.{ascends-front}
+use Rattle.sorted_iter.specs.Orders.{InOrder}
+use Rattle.sorted_iter.specs.Laws.{over_rests}
+
+-- the items of an iterator, which `view` reads, are the front of a list that its state shows; `Over` holds once it has ended
+module _ {S A B : Type 0} (view : A → B) (steps : S → Option A → S → Type 0) (rest : S → List B) (Over : S → Type 0) (gives : (s t : S) (x : A) → steps s (Some x) t → (rest s ≡ view x ∷ rest t) × (Over s → ⊥)) (ends : (s t : S) → steps s None t → Over t) where
+  shown : (xs : List A) (s t : S) → Yields steps s xs t → rest s ≡ map view xs ++ rest t
+  shown [] s t e = ap rest e
+  shown (x ∷ xs) s t e = (gives s e.0 x e.1).0 ∙ ap (λ l. view x ∷ l) (shown xs e.0 t e.2)
+
+  all_viewed : (cmp : B → B → Ordering) (b : A) (xs : List A) → AllByRecursion (λ y. cmp (view b) y ≡ Less) (map view xs) → AllByRecursion (λ y. cmp (view b) (view y) ≡ Less) xs
+  all_viewed cmp b [] h = tt
+  all_viewed cmp b (x ∷ xs) h = (h.0, all_viewed cmp b xs h.1)
+
+  viewed : (cmp : B → B → Ordering) (xs : List A) → IsStrictlySortedBy cmp (map view xs) → IsStrictlySortedBy (λ x y. cmp (view x) (view y)) xs
+  unfolding IsStrictlySortedBy
+  viewed cmp [] h = tt
+  viewed cmp (x ∷ xs) h = (all_viewed cmp x xs h.0, viewed cmp xs h.1)
+
+  pub in_order-of_rest : (cmp : B → B → Ordering) (s : S) → IsStrictlySortedBy cmp (rest s) → InOrder (λ x y. cmp (view x) (view y)) steps s
+  in_order-of_rest cmp s h = record {
+    ascends = λ xs t e. viewed cmp xs (ascends-front cmp (map view xs) (rest t) (subst (IsStrictlySortedBy cmp) (shown xs s t e) h));
+    stays_ended = λ xs t n u x v e f g. (gives u v x g).1 (over_rests steps Over ends n t u (ends e.0 t e.2) f);
+  }
+
+-- `Vec::into_iter`
+pub InOrder-from_into_iter : {X Z : Type 0} (cmp : X → X → Ordering) (it : IntoIter X Z) (xs : List X) → into_iter_items it ≡ xs → IsStrictlySortedBy cmp xs → InOrder cmp (into_iter_steps {X = X} {Z = Z}) it
+InOrder-from_into_iter {X} {Z} cmp it xs e h = in_order-of_rest (λ x. x) (into_iter_steps {X = X} {Z = Z}) into_iter_items (λ s. into_iter_len s ≡ 0)
+    (λ s t x k. (k.0, λ z. let l = k.1 in omega arith)) (λ s t k. k.1) cmp it (subst (IsStrictlySortedBy cmp) (sym e) h)
+
+module _ {X : Type 0} where
+  gives_ref : (s t : Iter X) (x : Bor X) → iter_steps s (Some x) t → (iter_rest s ≡ x.now ∷ iter_rest t) × (length (iter_rest s) ≡ 0 → ⊥)
+  gives_ref s t x k = (k, λ g. let e : length (iter_rest s) ≡ suc (length (iter_rest t)) = ap length k in omega arith)
+
+  ends_ref : (s t : Iter X) → iter_steps s None t → length (iter_rest t) ≡ 0
+  ends_ref s t k = ap (λ z. length (iter_rest z)) k.1 ∙ k.0
+
+  -- `iter` of a slice, in the order of references
+  pub InOrder-from_iter : (cmp : X → X → Ordering) (it : Iter X) (xs : List X) → iter_rest it ≡ xs → IsStrictlySortedBy cmp xs → InOrder (λ x y. cmp x.now y.now) (iter_steps {A = X}) it
+  InOrder-from_iter cmp it xs e h = in_order-of_rest (λ x. x.now) (iter_steps {A = X}) iter_rest (λ s. length (iter_rest s) ≡ 0) gives_ref ends_ref cmp it (subst (IsStrictlySortedBy cmp) (sym e) h)
+
+  gives_copy : (s t : Iter X) (x : X) (o : Option (Bor X)) → iter_steps s o t → Some x ≡ option_copied o → (iter_rest s ≡ x ∷ iter_rest t) × (length (iter_rest s) ≡ 0 → ⊥)
+  gives_copy s t x None k e = absurd cc
+  gives_copy s t x (Some y) k e = let f : x ≡ y.now = cc in let g = gives_ref s t y k in (g.0 ∙ ap (λ z. z ∷ iter_rest t) (sym f), g.1)
+
+  ends_copy : (s t : Iter X) (o : Option (Bor X)) → iter_steps s o t → None ≡ option_copied o → length (iter_rest t) ≡ 0
+  ends_copy s t None k e = ends_ref s t k
+  ends_copy s t (Some y) k e = absurd cc
+
+  -- `iter().copied()` of a slice
+  pub InOrder-from_copied : (cmp : X → X → Ordering) (it : Copied (Iter X)) (xs : List X) → iter_rest (copied_source it) ≡ xs → IsStrictlySortedBy cmp xs → InOrder cmp (copied_steps (iter_steps {A = X})) it
+  InOrder-from_copied cmp it xs e h = in_order-of_rest (λ x. x) (copied_steps (iter_steps {A = X})) (λ s. iter_rest (copied_source s)) (λ s. length (iter_rest (copied_source s)) ≡ 0)
+      (λ s t x k. gives_copy (copied_source s) (copied_source t) x k.0 k.1 k.2) (λ s t k. ends_copy (copied_source s) (copied_source t) k.0 k.1 k.2) cmp it (subst (IsStrictlySortedBy cmp) (sym e) h)
+
+pub ruleset sources = (InOrder-from_into_iter, InOrder-from_iter, InOrder-from_copied)

@@ -1,0 +1,74 @@
+//! A source of items in front of which one may be held: what the streams of two sources are built of.
+ghost use Rattle.std.specs.Prelude.{◌≡◌};
+ghost use Rattle.sorted_iter.specs.Lookahead.{ahead_of, ahead_can, Takes, PutsBack};
+
+use std::mem;
+
+/// What is known of the next item of a source.
+#[derive(Drop)]
+pub enum Head<T> {
+    /// Nothing yet: the source is to be asked.
+    Unread,
+
+    /// It was read and is held.
+    Held(T),
+
+    /// The source has ended, and isn't asked again.
+    Ended,
+}
+
+/// A source in front of which an item may be held. Once the source has answered `None` it isn't asked again.
+#[derive(Drop)]
+pub struct Ahead<I: Iterator>
+where
+    I::Item: Drop,
+{
+    /// The source.
+    pub source: I,
+
+    /// What is known of its next item.
+    pub head: Head<I::Item>,
+}
+
+impl<I: Iterator> Ahead<I>
+where
+    I::Item: Drop,
+{
+    /// A source that was not asked yet. O(1), and takes no memory.
+    pub fn new(source: I) -> Self
+        ensures { result ≡ ahead_of source }
+    {
+        Ahead {
+            source,
+            head: Head::Unread,
+        }
+    }
+
+    /// The item that is held, or else the next one of the source. It takes no memory of its own.
+    pub fn take(&mut self) -> Option<I::Item>
+        requires { ahead_can I.can_next self.old }
+        ensures { Takes I.can_next I.remaining I.next_gives self.old result self.new }
+    {
+        match mem::replace(&mut self.head, Head::Unread) {
+            Head::Held(item) => Some(item),
+            Head::Unread => match self.source.next() {
+                Some(item) => Some(item),
+                None => {
+                    self.head = Head::Ended;
+                    None
+                }
+            },
+            Head::Ended => {
+                self.head = Head::Ended;
+                None
+            }
+        }
+    }
+
+    /// Holds an item, which the next `take` gives, in place of one that is held. O(1), and takes no memory.
+    pub fn put_back(&mut self, item: I::Item)
+        ensures { PutsBack self.old item self.new }
+    {
+        self.head = Head::Held(item);
+    }
+}

@@ -1,0 +1,51 @@
+//! The stream of Difference.
+ghost use Rattle.std.specs.Prelude.{true, false};
+ghost use Rattle.sorted_iter.specs.Laws.{walk-in_order};
+ghost use Rattle.sorted_iter.specs.Lookahead.{ahead_left};
+ghost use Rattle.sorted_iter.specs.Streams.{difference_sides, difference_steps};
+ghost use Rattle.sorted_iter.specs.TwoSides.{sides_can, sides_ascend};
+
+use crate::marks::SortedByItem;
+use crate::sides::{Sides, Wants};
+
+/// The left items to which no item on the right is equal, ascending.
+///
+/// It is made by [`difference`](crate::SortedIterator::difference), lazily: `next` asks each source at most once for each
+/// item that it passes over. Making and stepping it takes no memory.
+#[derive(Drop)]
+#[must_use = "a stream is lazy and does nothing until it is asked"]
+pub struct Difference<I: Iterator, J: Iterator>
+where
+    I::Item: Drop,
+    J::Item: Drop,
+{
+    pub(crate) sides: Sides<I, J>,
+}
+
+impl<I: Iterator, J: Iterator<Item = I::Item>> Iterator for Difference<I, J>
+where
+    I::Item: Ord + Drop,
+{
+    type Item = I::Item;
+
+    ghost can_next = { λ s. sides_can I.can_next I.remaining J.can_next J.remaining (difference_sides s) };
+
+    ghost next_gives = { difference_steps I.Item.cmp I.next_gives J.next_gives };
+
+    ghost remaining = { λ s. ahead_left I.remaining (difference_sides s).left };
+
+    fn next(&mut self) -> Option<I::Item> {
+        self.sides.next(Wants { left: true, both: false, right: false })
+    }
+}
+
+impl<I: SortedByItem, J: SortedByItem<Item = I::Item>> SortedByItem for Difference<I, J>
+where
+    I::Item: Ord + Drop,
+{
+    ghost in_order = { λ s. sides_ascend I.Item.cmp I.next_gives I.Item.cmp J.next_gives (difference_sides s) };
+
+    fn mark(&self) {}
+
+    ghost sorted = { λ s h. walk-in_order true false false I.next_gives J.next_gives I.Item.total difference_sides s h };
+}

@@ -1,0 +1,22 @@
+//! Lazy set operations over streams whose items strictly ascend. A mark with laws says of an iterator that they do.
+#![tactic(auto)]
+
+mod ahead;
+mod difference;
+mod intersection;
+mod marks;
+mod sides;
+mod std_marks;
+mod symmetric_difference;
+mod union;
+
+pub use crate::ahead::{Ahead, Head};
+pub use crate::difference::Difference;
+pub use crate::intersection::Intersection;
+pub use crate::marks::{AssumeSortedByItem, AssumeSortedByItemExt, SortedByItem, SortedIterator};
+pub use crate::sides::{Sides, Wants};
+pub use crate::symmetric_difference::SymmetricDifference;
+pub use crate::union::Union;
+
+#[cfg(test)]
+mod tests;
