@@ -1,0 +1,44 @@
+//! The words of the command line.
+ghost use Rattle.std.specs.Prelude.{◌≡◌, ℕ, List};
+
+use element_core::NoMemory;
+use std::alloc::Global;
+use std::env::Args;
+use std::marker::Model;
+
+/// A word of the command line: bytes, which needn't be text.
+#[derive(Drop)]
+pub struct Argument {
+    bytes: Vec<u8>,
+}
+
+impl Model for Argument {
+    ghost Value = { List ℕ };
+
+    ghost view = { λ word. word.bytes.items };
+}
+
+impl Argument {
+    /// The word of these bytes. Takes no memory.
+    pub fn new(bytes: Vec<u8>) -> Self
+        ensures { result ≡ bytes.items }
+    {
+        Argument { bytes }
+    }
+
+    /// The bytes of the word. Takes no memory.
+    pub fn as_bytes(&self) -> &[u8]
+        ensures { result.now ≡ self.now }
+    {
+        &self.bytes
+    }
+}
+
+// The words behind the program's name.
+pub fn words_of(alloc: Global, args: Args) -> Result<Vec<Argument>, NoMemory> {
+    let mut words = Vec::new(alloc);
+    for word in args.skip(1) {
+        words.push(Argument::new(word.into_bytes()))?;
+    }
+    Ok(words)
+}
