@@ -34,8 +34,8 @@ impl Argument {
     }
 }
 
-// The words behind the program's name.
-pub fn words_of(alloc: Global, args: Args) -> Result<Vec<Argument>, NoMemory> {
+/// The words behind the program's name, which is the first of the arguments.
+pub(crate) fn words_of(alloc: Global, args: Args) -> Result<Vec<Argument>, NoMemory> {
     let mut words = Vec::new(alloc);
     for word in args.skip(1) {
         words.push(Argument::new(word.into_bytes()))?;

@@ -14,6 +14,13 @@ pub mod standard;
 pub mod status;
 mod writing;
 
+#[cfg(test)]
+mod run_tests;
+#[cfg(test)]
+mod standard_tests;
+#[cfg(test)]
+mod watched;
+
 
 use crate::arguments::words_of;
 use crate::program::run;

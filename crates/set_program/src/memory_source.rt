@@ -97,7 +97,7 @@ impl Source for MemorySource {
 }
 
 /// Copies bytes to the front of a buffer: as many as there are, the buffer has room for and `most` allows.
-pub fn give(bytes: &[u8], buffer: &mut [u8], most: usize) -> usize
+pub(crate) fn give(bytes: &[u8], buffer: &mut [u8], most: usize) -> usize
     ensures count { result ≡ min (length bytes.now) (min most (length buffer.old)) }
     ensures given { take result buffer.new ≡ take result bytes.now }
 {

@@ -16,7 +16,14 @@ use crate::status::Status;
 use set_document::AlgebraError;
 use std::alloc::Global;
 
-/// Answers the text of the source on the sink.
+/// Reads a text from the source, and writes its answer to the sink, or the line of its first fault.
+///
+/// It judges the words first: any word is `Usage`, with no device called. Then it reads to the end of the input, or to
+/// the 65,537th byte, which is `TooLong` at once; then it evaluates the text, writes, and finishes the sink. Each write
+/// is handed all that isn't written yet, in one piece. The first failed call on a device ends the run as `ReadFault` or
+/// `WriteFault`. All memory is taken before the first write, and `NoMemory` leaves the sink as it was.
+///
+/// O(n) calls of the devices for n bytes read and written.
 pub fn run<S: Source, K: Sink>(
     alloc: Global,
     words: &[Argument],
