@@ -50,6 +50,7 @@ pub fn answer_text<K: Sink>(alloc: Global, text: &[u8], sink: &mut K) -> Status
     ensures write_cause { result ≡ Status.WriteFault → Rose (K.faults sink.old) (K.faults sink.new) }
     ensures write_written { result ≡ Status.WriteFault
         → AppendsPrefix (K.written sink.old) (K.written sink.new) (text_of text.now) }
+    ensures write_unfinished { result ≡ Status.WriteFault → K.finished sink.new ≡ true → K.finished sink.old ≡ true }
 
     ensures memory_sink { result ≡ Status.NoMemory → sink.new ≡ sink.old }
 

@@ -1,5 +1,6 @@
 //! The words of the command line.
-ghost use Rattle.std.specs.Prelude.{◌≡◌, ℕ, List};
+ghost use Rattle.std.specs.Prelude.{◌≡◌, ℕ, List, IfOk, drop, map, string_bytes};
+ghost use Rattle.std.specs.Vec.Iter.{into_iter_items};
 
 use element_core::NoMemory;
 use std::alloc::Global;
@@ -35,10 +36,12 @@ impl Argument {
 }
 
 /// The words behind the program's name, which is the first of the arguments.
-pub(crate) fn words_of(alloc: Global, args: Args) -> Result<Vec<Argument>, NoMemory> {
-    let mut words = Vec::new(alloc);
-    for word in args.skip(1) {
-        words.push(Argument::new(word.into_bytes()))?;
-    }
+pub(crate) fn words_of(alloc: Global, args: Args) -> Result<Vec<Argument>, NoMemory>
+    ensures { IfOk result (λ words. words.items ≡ map string_bytes (drop 1 (into_iter_items args))) }
+{
+    let words = args
+        .skip(1)
+        .map(|word| Argument::new(word.into_bytes()))
+        .collect(alloc)?;
     Ok(words)
 }

@@ -10,17 +10,15 @@ pub mod memory_source;
 pub mod plain;
 pub mod program;
 mod reading;
-pub mod standard;
-pub mod status;
-mod writing;
-
 #[cfg(test)]
 mod run_tests;
+pub mod standard;
 #[cfg(test)]
 mod standard_tests;
+pub mod status;
 #[cfg(test)]
 mod watched;
-
+mod writing;
 
 use crate::arguments::words_of;
 use crate::program::run;
@@ -38,6 +36,6 @@ fn main(rt: HostRuntime) -> ExitCode {
         return ExitCode::from(2);
     };
     let mut source = StdSource::new(rt.stdin());
-    let mut sink = StdSink::new(io::writer(&rt));
+    let mut sink = StdSink::new(rt.stdout());
     ExitCode::from(run(rt.alloc(), &words, &mut source, &mut sink).code())
 }

@@ -73,6 +73,7 @@ pub fn run<S: Source, K: Sink>(
     ensures write_read { result ≡ Status.WriteFault → ReadWhole MAX_TEXT (S.left source.old) (S.left source.new) }
     ensures write_written { result ≡ Status.WriteFault → IfSome (S.left source.old) (λ text.
         AppendsPrefix (K.written sink.old) (K.written sink.new) (text_of text)) }
+    ensures write_unfinished { result ≡ Status.WriteFault → K.finished sink.new ≡ true → K.finished sink.old ≡ true }
 
     // Memory is short.
     ensures memory_source_faults { result ≡ Status.NoMemory → S.faults source.new ≡ S.faults source.old }

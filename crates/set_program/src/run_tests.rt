@@ -1,5 +1,6 @@
 //! Tests of `run` over devices in memory: what is written, how it ends, and how the devices are called.
 use crate::arguments::Argument;
+use crate::devices::Source;
 use crate::memory_sink::MemorySink;
 use crate::memory_source::MemorySource;
 use crate::plain::{PlainSink, PlainSource};
@@ -40,6 +41,14 @@ fn answers(rt: HostRuntime) -> Result<(), Fail> {
             "a: 9223372036854775807 -9223372036854775808 |\n",
             "a: -9223372036854775808..=-9223372036854775808 9223372036854775807..=9223372036854775807 |\n",
         ),
+        (
+            "a: 9223372036854775807 !\n",
+            "a: -9223372036854775808..=9223372036854775806\n",
+        ),
+        (
+            "a: -9223372036854775808..=9223372036854775806 !\n",
+            "a: 9223372036854775807..=9223372036854775807\n",
+        ),
         ("", ""),
     ];
     for (text, answer) in table {
@@ -58,24 +67,40 @@ fn first_faults(rt: HostRuntime) -> Result<(), Fail> {
     let alloc = rt.alloc();
     let bad_word = AlgebraError::BadWord { line: 1, word: 1 };
     let table = [
-        ("a: 1", AlgebraError::BadLine { line: 1 }, "line 1: bad line\n"),
+        (
+            "a: 1",
+            AlgebraError::BadLine { line: 1 },
+            "line 1: bad line\n",
+        ),
         ("a: \n", bad_word, "line 1, word 1: bad word\n"),
-        ("a: 5..=9223372036854775808\n", bad_word, "line 1, word 1: bad word\n"),
+        (
+            "a: 5..=9223372036854775808\n",
+            bad_word,
+            "line 1, word 1: bad word\n",
+        ),
         ("a: 01\n", bad_word, "line 1, word 1: bad word\n"),
-        ("a:\n", AlgebraError::NotOne { line: 1 }, "line 1: not one set\n"),
+        ("a: -0\n", bad_word, "line 1, word 1: bad word\n"),
+        ("a: +5\n", bad_word, "line 1, word 1: bad word\n"),
+        (
+            "a:\n",
+            AlgebraError::NotOne { line: 1 },
+            "line 1: not one set\n",
+        ),
         (
             "a: 1\nb: 5..=2\n",
             AlgebraError::Reversed { line: 2, word: 1 },
             "line 2, word 1: reversed range\n",
         ),
-        ("a: a\n", AlgebraError::UnknownName { line: 1, word: 1 }, "line 1, word 1: unknown name\n"),
         (
             "a: 1 |\nB: 1\n",
             AlgebraError::StackShort { line: 1, word: 2 },
             "line 1, word 2: too few sets\n",
         ),
-        ("a: 1 2\nb: x\n", AlgebraError::NotOne { line: 1 }, "line 1: not one set\n"),
-        ("a: 1 2 x\n", AlgebraError::UnknownName { line: 1, word: 3 }, "line 1, word 3: unknown name\n"),
+        (
+            "a: 1 2\nb: x\n",
+            AlgebraError::NotOne { line: 1 },
+            "line 1: not one set\n",
+        ),
     ];
     for (text, fault, line) in table {
         let mut source = PlainSource::new(text.as_bytes().to_vec(alloc)?);
@@ -120,6 +145,13 @@ fn third_read_fails(rt: HostRuntime) -> Result<(), Fail> {
     assert_eq!(rt; status, Status::ReadFault);
     assert_eq!(rt; status.code(), 3);
     assert_eq!(rt; sink.bytes().len(), 0);
+    let mut next = [0u8; 8];
+    assert_eq!(rt;
+        source.read(&mut next),
+        Ok(4),
+        "no read comes after the failed one"
+    );
+    assert_eq!(rt; next.as_slice(), b" 4..\0\0\0\0".as_slice());
     Ok(())
 }
 

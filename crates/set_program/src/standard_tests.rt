@@ -4,8 +4,8 @@ use crate::memory_source::give;
 use crate::program::run;
 use crate::standard::{StdSink, StdSource};
 use crate::status::Status;
-use std::io::{Read, Write};
 use std::io;
+use std::io::{Read, Write};
 use std::test::Fail;
 
 // A reader whose first read fails, and whose others give the bytes at once.

@@ -13,6 +13,7 @@ pub fn write_text<K: Sink>(sink: &mut K, bytes: &[u8]) -> Result<(), Failed>
     ensures ok { OnOk result (Appends (K.written sink.old) (K.written sink.new) bytes.now) }
     ensures finished { OnOk result (K.finished sink.new ≡ true) }
     ensures err { OnErr result (AppendsPrefix (K.written sink.old) (K.written sink.new) bytes.now) }
+    ensures unfinished { OnErr result (K.finished sink.new ≡ true → K.finished sink.old ≡ true) }
     ensures cause { HasCause (K.faults sink.old) (K.faults sink.new) result }
 {
     let mut written = 0;

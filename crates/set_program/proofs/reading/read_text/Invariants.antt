@@ -11,7 +11,7 @@ invariant-loop-filled g l = record {
   faults : g.S.Source.faults l.source ≡ g.S.Source.faults l.initial.source;
   taken : g.S.Source.taken l.source ≤ g.S.Source.taken l.initial.source + l.filled;
   later : g.S.Source.taken l.initial.source ≤ g.S.Source.taken l.source;
-  rose : RoseBy l.filled (g.S.Source.taken l.initial.source) (g.S.Source.taken l.source)
+  rose : RoseBy l.filled (g.S.Source.taken l.initial.source) (g.S.Source.taken l.source);
 }
 
 abbrev pub decreases-loop-filled : goal.decreases-loop-filled
