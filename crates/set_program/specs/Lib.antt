@@ -1,0 +1,9 @@
+pub mod Counts
+pub mod Devices
+pub mod Outcome
+pub mod Reading
+pub mod MemorySource
+pub mod MemorySink
+pub mod Plain
+pub mod Standard
+pub mod Codes

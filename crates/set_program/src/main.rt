@@ -1,0 +1,41 @@
+//! Reads a text, and writes its answer or its first fault. The words of the command line, the text and the answer go
+//! through devices, over memory or over std, so that `run` is proved against what a device may do.
+#![tactic(auto)]
+
+mod answering;
+pub mod arguments;
+pub mod devices;
+pub mod memory_sink;
+pub mod memory_source;
+pub mod plain;
+pub mod program;
+mod reading;
+#[cfg(test)]
+mod run_tests;
+pub mod standard;
+#[cfg(test)]
+mod standard_tests;
+pub mod status;
+#[cfg(test)]
+mod watched;
+mod writing;
+
+use crate::arguments::words_of;
+use crate::program::run;
+use crate::standard::{StdSink, StdSource};
+use std::process::ExitCode;
+use std::{env, io};
+
+fn main(rt: HostRuntime) -> ExitCode {
+    let args = match env::args(&rt) {
+        Ok(args) => args,
+        Err(error) if error.kind() == io::ErrorKind::OutOfMemory => return ExitCode::from(2),
+        Err(_) => return ExitCode::from(11),
+    };
+    let Ok(words) = words_of(rt.alloc(), args) else {
+        return ExitCode::from(2);
+    };
+    let mut source = StdSource::new(rt.stdin());
+    let mut sink = StdSink::new(rt.stdout());
+    ExitCode::from(run(rt.alloc(), &words, &mut source, &mut sink).code())
+}

@@ -1,0 +1,78 @@
+//! Tests of the devices over std: over a reader that fails once, and over a writer that takes nothing.
+use crate::devices::{Failed, Sink, Source};
+use crate::memory_source::give;
+use crate::program::run;
+use crate::standard::{StdSink, StdSource};
+use crate::status::Status;
+use std::io;
+use std::io::{Read, Write};
+use std::test::Fail;
+
+// A reader whose first read fails, and whose others give the bytes at once.
+#[derive(Drop)]
+struct FailsOnce {
+    failed: bool,
+    bytes: Vec<u8>,
+}
+
+impl Read for FailsOnce {
+    fn read(&mut self, buf: &mut [u8]) -> io::Result<usize> {
+        if !self.failed {
+            self.failed = true;
+            return Err(io::Error::from(io::ErrorKind::Other));
+        }
+        let count = give(&self.bytes, buf, buf.len());
+        self.bytes.clear();
+        Ok(count)
+    }
+}
+
+// A writer that takes nothing, and can be flushed.
+#[derive(Drop)]
+struct TakesNothing;
+
+impl Write for TakesNothing {
+    fn write(&mut self, _buf: &[u8]) -> io::Result<usize> {
+        Ok(0)
+    }
+
+    fn flush(&mut self) -> io::Result<()> {
+        Ok(())
+    }
+}
+
+#[test]
+fn source_goes_on_after_a_fault(rt: HostRuntime) -> Result<(), Fail> {
+    let alloc = rt.alloc();
+    let mut source = StdSource::new(FailsOnce {
+        failed: false,
+        bytes: b"a: 1\n".to_vec(alloc)?,
+    });
+    let mut buffer = [0u8; 8];
+    assert_eq!(rt; source.read(&mut buffer), Err(Failed));
+    assert_eq!(rt; source.read(&mut buffer), Ok(5));
+    assert_eq!(rt; &buffer[..5], b"a: 1\n".as_slice());
+    assert_eq!(rt; source.read(&mut buffer), Ok(0));
+    Ok(())
+}
+
+#[test]
+fn sink_counts_a_write_that_takes_nothing(rt: HostRuntime) -> Result<(), Fail> {
+    let mut sink = StdSink::new(TakesNothing);
+    assert_eq!(rt; sink.write(b"a"), Err(Failed));
+    assert_eq!(rt; sink.finish(), Ok(()));
+    Ok(())
+}
+
+#[test]
+fn runs_over_std(rt: HostRuntime) -> Result<(), Fail> {
+    let alloc = rt.alloc();
+    let mut written = Vec::new(alloc);
+    let mut source = StdSource::new(b"a: 1..=5 4..=8 |\n".as_slice());
+    let mut sink = StdSink::new(&mut written);
+    let status = run(alloc, &[], &mut source, &mut sink);
+    assert_eq!(rt; status, Status::Done);
+    drop(sink);
+    assert_eq!(rt; written.as_slice(), b"a: 1..=8\n".as_slice());
+    Ok(())
+}
