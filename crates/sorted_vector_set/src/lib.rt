@@ -1,0 +1,14 @@
+//! A set whose items lie in order in one vector.
+//!
+//! Look-ups are a binary search, and items in order are put in at the end without one. Putting an item in before
+//! others, or taking one out, moves those behind it.
+#![tactic(auto)]
+
+mod compared;
+mod iters;
+mod set;
+#[cfg(test)]
+mod tests;
+
+pub use element_core::{NoMemory, Refused};
+pub use set::SortedVectorSet;
