@@ -1,17 +1,17 @@
 -- Equality and hashes of lists of ranges, by values and by numbers.
-use Rattle.std.proofs.Common.{◌≡◌, List, [], ◌∷◌, ◌++◌, refl, ap, sym, ◌∙◌, map, length}
-use Rattle.std.specs.Prelude.{ℤ, Bool, true, ◌&&◌}
+use Rattle.std.proofs.Common.{◌≡◌, List, [], ◌∷◌, ◌++◌, refl, ap, ◌∙◌}
+use Rattle.std.specs.Prelude.{ℤ, Bool, ◌&&◌}
 use Rattle.std.specs.declared.cmp.Ordering.{Ordering}
-use Rattle.std.specs.Ordering.{int_cmp, int_eq, is_eq, eq_by_cmp}
+use Rattle.std.specs.Ordering.{int_eq, is_eq}
 use Rattle.std.specs.Cmp.Lexicographic.{pointwise}
 use Rattle.std.specs.Hash as fed
 use Rattle.std.specs.Hash.{HashWrites}
 use Rattle.std.specs.List.{flat_map}
 use Rattle.std.proofs.lemmas.List.{length-map}
 use Rattle.element_core.specs.Numbering.{Numbering, IsNumbering}
-use Rattle.range_map.specs.Range.{IsRange, in_numbers}
+use Rattle.range_map.specs.Range.{in_numbers}
 use Rattle.range_map.specs.Set.{all_in_numbers, AreRanges}
-use Rattle.range_map.specs.SetLaws.{same_ends, same_ranges, ranges_fed}
+use Rattle.range_map.specs.SetLaws.{same_ranges, ranges_fed}
 
 module _ {T : Type 0} (numbers : Numbering T) (cmp : T → T → Ordering) (numbered : IsNumbering cmp numbers) where
   same_values : (x y : T) → numbers.IsValue x → numbers.IsValue y → is_eq (cmp x y) ≡ int_eq (numbers.number x) (numbers.number y)

@@ -1,6 +1,6 @@
 -- The numbers between two ends that no range of a canonical list holds.
-use Rattle.std.proofs.Common.{◌≡◌, List, [], ◌∷◌, ◌++◌, refl, ap, arith, sym, ◌∙◌, inl, inr}
-use Rattle.std.specs.Prelude.{ℤ, pos, ◌+ℤ◌, ◌-ℤ◌, ◌≤ℤ◌, ◌<ℤ◌, Bool, true, false, not, ◌||◌}
+use Rattle.std.proofs.Common.{◌≡◌, List, [], ◌∷◌, ◌++◌, refl, arith, ◌∙◌, inl, inr}
+use Rattle.std.specs.Prelude.{ℤ, pos, ◌+ℤ◌, ◌-ℤ◌, ◌≤ℤ◌, ◌<ℤ◌, true, false, not}
 use Rattle.std.proofs.lemmas.Int.{ints, by_lt_z}
 use Rattle.std.proofs.Math.Bool.{or-false}
 use Rattle.number_line.specs.Ranges.{lies_in, holds, IsCanonical}
@@ -8,9 +8,9 @@ use Rattle.number_line.proofs.RangeLemmas.{below_start, from_lower, first_holds,
 use Rattle.std.proofs.lemmas.List.{map_push}
 use Rattle.element_core.specs.Numbering.{Numbering}
 use Rattle.range_map.specs.Range.{IsRange, in_numbers}
-use Rattle.range_map.specs.Set.{all_in_numbers, AreRanges, IsSet}
+use Rattle.range_map.specs.Set.{all_in_numbers}
 use Rattle.range_map.specs.Merging.{IsGapPushed}
-use Rattle.range_map.proofs.CanonicalLemmas.{to_higher, above_end, holds-push, canonical-push, ranges-push}
+use Rattle.range_map.proofs.CanonicalLemmas.{to_higher, above_end, holds-push, canonical-push}
 
 inside : (r : ℤ × ℤ) (x : ℤ) → r.0 ≤ℤ x → x ≤ℤ r.1 → lies_in r x ≡ true
 inside r x p q = grind (arith, ints)

@@ -1,5 +1,5 @@
 -- Ranges of a numbered type, each a pair of the first and the last value, and the same ranges in numbers.
-use Rattle.std.specs.Prelude.{ℤ, ◌≤ℤ◌, List, map, int_lt, if◌then◌else◌}
+use Rattle.std.specs.Prelude.{ℤ, ◌≤ℤ◌, int_lt, if◌then◌else◌}
 use Rattle.std.specs.declared.cmp.Ordering.{Ordering}
 use Rattle.std.specs.declared.cmp.Ordering.TheVariants.{Less, Equal, Greater}
 use Rattle.element_core.specs.Numbering.{Numbering}

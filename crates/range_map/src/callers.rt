@@ -26,7 +26,10 @@ pub(crate) fn listed(alloc: Global, set: &RangeSet<i64>) -> Result<Vec<Range<i64
     Ok(list)
 }
 
-pub(crate) fn first_and_rest(alloc: Global, set: &RangeSet<i64>) -> Result<Vec<Range<i64>>, NoMemory>
+pub(crate) fn first_and_rest(
+    alloc: Global,
+    set: &RangeSet<i64>,
+) -> Result<Vec<Range<i64>>, NoMemory>
     ensures { IfOk result (λ list. list.items ≡ set.now) }
 {
     let mut list = Vec::new(alloc);
@@ -40,7 +43,10 @@ pub(crate) fn first_and_rest(alloc: Global, set: &RangeSet<i64>) -> Result<Vec<R
     Ok(list)
 }
 
-pub(crate) fn collected<T: Element>(alloc: Global, set: &RangeSet<T>) -> Result<Vec<Range<T>>, NoMemory>
+pub(crate) fn collected<T: Element>(
+    alloc: Global,
+    set: &RangeSet<T>,
+) -> Result<Vec<Range<T>>, NoMemory>
     ensures { IfOk result (λ list. all_in_numbers T.numbers list.items ≡ set.now) }
 {
     Ok(set.ranges().collect(alloc)?)

@@ -2,7 +2,7 @@
 ghost use Rattle.std.specs.Prelude.{◌≡◌, ℤ, pos, ◌+◌, ◌<◌, ◌≤ℤ◌, ◌+ℤ◌, [], length, OnOk, IfSome, IfNone};
 ghost use Rattle.std.specs.Bool.{MatchBool};
 ghost use Rattle.number_line.specs.Ranges.{IsCanonical};
-ghost use Rattle.range_map.specs.Range.{IsRange, in_numbers};
+ghost use Rattle.range_map.specs.Range.{in_numbers};
 ghost use Rattle.range_map.specs.Set.{all_in_numbers, AreRanges};
 ghost use Rattle.range_map.specs.Merging.{BeginBy, IsTaken, IsJoined, IsGapPushed, IsCommonPushed};
 
@@ -25,12 +25,10 @@ pub(crate) fn take_first<'a, T: Element>(
 ) -> Option<Taken<'a, T>>
     ensures none { IfNone result ((left.now ≡ []) × (right.now ≡ [])) }
     ensures taken { IfSome result (λ t. IsTaken T.numbers.greatest (all_in_numbers T.numbers left.now) (all_in_numbers T.numbers right.now) (in_numbers T.numbers t.next) (all_in_numbers T.numbers t.left.now) (all_in_numbers T.numbers t.right.now)) }
-    ensures range { IfSome result (λ t. IsRange T.numbers t.next) }
     ensures fewer { IfSome result (λ t. length t.left.now + length t.right.now < length left.now + length right.now) }
 {
     let Some((a, after_a)) = left.split_first() else {
         let (b, after_b) = right.split_first()?;
-        b.start();
         return Some(Taken {
             next: *b,
             left,
@@ -38,7 +36,6 @@ pub(crate) fn take_first<'a, T: Element>(
         });
     };
     let Some((b, after_b)) = right.split_first() else {
-        a.start();
         return Some(Taken {
             next: *a,
             left: after_a,
@@ -84,6 +81,7 @@ pub(crate) fn push_joined<T: Element>(
     ensures are_ranges { OnOk result (AreRanges T.numbers list.new.items) }
     ensures joined { OnOk result (IsJoined T.numbers.least T.numbers.greatest (all_in_numbers T.numbers list.old.items) (in_numbers T.numbers range) (all_in_numbers T.numbers list.new.items)) }
 {
+    // These two tell that the range lies within the type.
     range.start();
     range.end();
     match list.pop() {

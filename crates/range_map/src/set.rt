@@ -62,6 +62,7 @@ impl<T: Element> RangeSet<T> {
         ensures canonical { IfOk result (IsCanonical T.numbers.least T.numbers.greatest) }
         ensures list { IfOk result (λ set. set ≡ in_numbers T.numbers range ∷ []) }
     {
+        // These two tell that the range lies within the type.
         range.start();
         range.end();
         let mut ranges = Vec::with_capacity(alloc, 1)?;

@@ -111,11 +111,27 @@ fn union_joins_ranges_that_overlap_or_touch(rt: HostRuntime) -> Result<(), Fail>
         ([(1, 3), (1, 0)], [(4, 6), (1, 0)], [(1, 6)].as_slice()),
         ([(4, 6), (1, 0)], [(1, 3), (1, 0)], [(1, 6)].as_slice()),
         ([(1, 5), (1, 0)], [(4, 8), (1, 0)], [(1, 8)].as_slice()),
-        ([(1, 3), (1, 0)], [(5, 6), (1, 0)], [(1, 3), (5, 6)].as_slice()),
+        (
+            [(1, 3), (1, 0)],
+            [(5, 6), (1, 0)],
+            [(1, 3), (5, 6)].as_slice(),
+        ),
         ([(1, 9), (1, 0)], [(3, 4), (6, 7)], [(1, 9)].as_slice()),
-        ([(1, 2), (10, 12)], [(3, 4), (9, 9)], [(1, 4), (9, 12)].as_slice()),
-        ([(i64::MIN, -1), (1, i64::MAX)], [(0, 0), (1, 0)], [(i64::MIN, i64::MAX)].as_slice()),
-        ([(1, 0), (1, 0)], [(7, 7), (9, 9)], [(7, 7), (9, 9)].as_slice()),
+        (
+            [(1, 2), (10, 12)],
+            [(3, 4), (9, 9)],
+            [(1, 4), (9, 12)].as_slice(),
+        ),
+        (
+            [(i64::MIN, -1), (1, i64::MAX)],
+            [(0, 0), (1, 0)],
+            [(i64::MIN, i64::MAX)].as_slice(),
+        ),
+        (
+            [(1, 0), (1, 0)],
+            [(7, 7), (9, 9)],
+            [(7, 7), (9, 9)].as_slice(),
+        ),
     ];
     for (left, right, want) in rows {
         let left = set_of(rt.alloc(), left.as_slice())?;
@@ -133,9 +149,21 @@ fn intersection_keeps_what_both_hold(rt: HostRuntime) -> Result<(), Fail> {
         ([(1, 5), (1, 0)], [(4, 8), (1, 0)], [(4, 5)].as_slice()),
         ([(1, 3), (1, 0)], [(3, 6), (1, 0)], [(3, 3)].as_slice()),
         ([(1, 3), (1, 0)], [(4, 6), (1, 0)], [].as_slice()),
-        ([(1, 10), (1, 0)], [(2, 3), (9, 12)], [(2, 3), (9, 10)].as_slice()),
-        ([(1, 4), (6, 9)], [(2, 4), (7, 9)], [(2, 4), (7, 9)].as_slice()),
-        ([(i64::MIN, i64::MAX), (1, 0)], [(i64::MIN, 3), (i64::MAX, i64::MAX)], [(i64::MIN, 3), (i64::MAX, i64::MAX)].as_slice()),
+        (
+            [(1, 10), (1, 0)],
+            [(2, 3), (9, 12)],
+            [(2, 3), (9, 10)].as_slice(),
+        ),
+        (
+            [(1, 4), (6, 9)],
+            [(2, 4), (7, 9)],
+            [(2, 4), (7, 9)].as_slice(),
+        ),
+        (
+            [(i64::MIN, i64::MAX), (1, 0)],
+            [(i64::MIN, 3), (i64::MAX, i64::MAX)],
+            [(i64::MIN, 3), (i64::MAX, i64::MAX)].as_slice(),
+        ),
         ([(1, 0), (1, 0)], [(7, 7), (9, 9)], [].as_slice()),
     ];
     for (left, right, want) in rows {
@@ -151,10 +179,19 @@ fn intersection_keeps_what_both_hold(rt: HostRuntime) -> Result<(), Fail> {
 #[test]
 fn negation_keeps_the_gaps(rt: HostRuntime) -> Result<(), Fail> {
     let rows = [
-        ([(1, 3), (7, 9)], [(i64::MIN, 0), (4, 6), (10, i64::MAX)].as_slice()),
+        (
+            [(1, 3), (7, 9)],
+            [(i64::MIN, 0), (4, 6), (10, i64::MAX)].as_slice(),
+        ),
         ([(i64::MIN, 3), (5, i64::MAX)], [(4, 4)].as_slice()),
-        ([(i64::MIN, i64::MAX - 1), (1, 0)], [(i64::MAX, i64::MAX)].as_slice()),
-        ([(i64::MIN + 1, i64::MAX), (1, 0)], [(i64::MIN, i64::MIN)].as_slice()),
+        (
+            [(i64::MIN, i64::MAX - 1), (1, 0)],
+            [(i64::MAX, i64::MAX)].as_slice(),
+        ),
+        (
+            [(i64::MIN + 1, i64::MAX), (1, 0)],
+            [(i64::MIN, i64::MIN)].as_slice(),
+        ),
     ];
     for (ranges, want) in rows {
         let set = set_of(rt.alloc(), ranges.as_slice())?;
@@ -167,7 +204,10 @@ fn negation_keeps_the_gaps(rt: HostRuntime) -> Result<(), Fail> {
 
 #[test]
 fn membership_changes_at_the_ends_of_ranges(rt: HostRuntime) -> Result<(), Fail> {
-    let set = set_of(rt.alloc(), [(i64::MIN, -5), (1, 3), (5, 5), (9, i64::MAX)].as_slice())?;
+    let set = set_of(
+        rt.alloc(),
+        [(i64::MIN, -5), (1, 3), (5, 5), (9, i64::MAX)].as_slice(),
+    )?;
     let rows = [
         (i64::MIN, true),
         (-5, true),

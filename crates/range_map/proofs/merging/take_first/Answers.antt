@@ -13,9 +13,9 @@ returns-in_default-split_first-clause-taken g c =
 pub returns-then-is_below-clause-taken : goal.returns-then-is_below-clause-taken
 returns-then-is_below-clause-taken g c =
     rw (c.in-Some.ensures.cases.0, c.in-Some-split_first.ensures.cases.0)
-    (taken_right _ _ _ _ _ (rw (← c.start-2.ensures.value, ← c.start-3.ensures.value) c.if-is_below.ensures))
+    (taken_right _ _ _ _ _ (rw (← c.start.ensures.value, ← c.start-2.ensures.value) c.if-is_below.ensures))
 
 pub returns-else-is_below-clause-taken : goal.returns-else-is_below-clause-taken
 returns-else-is_below-clause-taken g c =
     rw (c.in-Some.ensures.cases.0, c.in-Some-split_first.ensures.cases.0)
-    (taken_left _ _ _ _ _ (rw (← c.start-2.ensures.value, ← c.start-3.ensures.value) c.if-is_below.ensures))
+    (taken_left _ _ _ _ _ (rw (← c.start.ensures.value, ← c.start-2.ensures.value) c.if-is_below.ensures))

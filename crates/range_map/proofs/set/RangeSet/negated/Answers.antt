@@ -1,4 +1,4 @@
-use Rattle.std.proofs.Common.{◌≡◌, ℤ, ◌+ℤ◌, pos, refl, ap, ◌∙◌}
+use Rattle.std.proofs.Common.{◌+ℤ◌, pos, refl, ap, ◌∙◌}
 use Rattle.std.proofs.lemmas.List.{nil_from_length}
 use Rattle.range_map.specs.Set.{all_in_numbers}
 use Rattle.range_map.proofs.CanonicalLemmas.{ranges-push}

@@ -1,4 +1,4 @@
-use Rattle.std.proofs.Common.{ℕ, ◌+◌, length}
+use Rattle.std.proofs.Common.{◌+◌, length}
 use Rattle.range_map.specs.Set.{all_in_numbers, AreRanges}
 use Rattle.range_map.proofs.MergeLemmas.{IsMerged}
 use Rattle.range_map.proofs.set.RangeSet.union.Given as goal
