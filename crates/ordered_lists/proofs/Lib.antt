@@ -1,2 +1,3 @@
 pub mod PlaceLemmas
 pub mod WalkLemmas
+pub mod ViewLemmas
