@@ -1,13 +1,12 @@
 -- Items that are compared by what a view reads of them, as references are by what they point to: the set operations of such
 -- lists read as those of what is read.
-use Rattle.std.proofs.Common.{◌≡◌, Bool, true, false, not, is_some, cond, List, [], ◌∷◌, map, Option, Some, None, refl, sym, ap, ap₂, ◌∙◌}
+use Rattle.std.proofs.Common.{◌≡◌, Bool, true, false, not, is_some, cond, List, [], ◌∷◌, map, Some, refl, ap, ap₂, ◌∙◌}
 use Rattle.std.specs.List.{AllByRecursion, filter}
 use Rattle.std.specs.List.Sorted.{IsStrictlySortedBy}
 use Rattle.std.specs.declared.cmp.Ordering.{Ordering}
 use Rattle.std.specs.declared.cmp.Ordering.TheVariants.{Less, Equal, Greater}
 use Rattle.std.specs.Ordering.{match_ordering, is_eq}
 use Rattle.ordered_lists.specs.Lists.{find, has, add, union, intersection, difference, symmetric_difference}
-use Rattle.ordered_lists.proofs.PlaceLemmas.{by_order}
 
 module _ {A B : Type 0} (view : A → B) (cmp : B → B → Ordering) where
   abbrev pub by_view : A → A → Ordering

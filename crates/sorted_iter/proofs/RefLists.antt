@@ -97,8 +97,8 @@ module _ {S T U X : Type 0} (cmp : X → X → Ordering) (steps : U → Option (
   refs-of_symmetric_difference = refs-of_runs (symmetric_difference at_refs) (symmetric_difference cmp) (view-symmetric_difference (λ r. r.now) cmp)
 
 -- the iterator of a set gives its keys
-pub refs-of_keys : {K : Type 0} (s : List K) → GivesRefs (TakesFirst (deref {X = K})) s s
-refs-of_keys {K} s = record { runs = go s }
+pub refs-of_keys : {K : Type 0} (s xs : List K) → s ≡ xs → GivesRefs (TakesFirst (deref {X = K})) s xs
+refs-of_keys {K} s xs e = record { runs = subst (AlwaysYields (TakesFirst (deref {X = K})) (λ r. r.now) s) e (go s) }
   where
     go : (l : List K) → AlwaysYields (TakesFirst (deref {X = K})) (λ r. r.now) l l
     go [] = λ r j k. let e : [] ≡ r.now ∷ j = k in absurd cc

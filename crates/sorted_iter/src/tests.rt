@@ -195,6 +195,21 @@ fn with_range(alloc: Global, a: &[u32]) -> Result<Vec<u32>, AllocError>
     (2..5u32).symmetric_difference(given).collect(alloc)
 }
 
+/// The keys of two sets: a loop over references.
+fn keys_of_union<K: Ord + Copy>(
+    alloc: Global,
+    a: &BTreeSet<K>,
+    b: &BTreeSet<K>,
+) -> Result<Vec<K>, AllocError>
+    ensures { IfOk result (λ v. v.items ≡ union K.cmp a.now.keys b.now.keys) }
+{
+    let mut all = Vec::new(alloc);
+    for key in a.iter().union(b.iter()) {
+        all.push(*key)?;
+    }
+    Ok(all)
+}
+
 /// The keys of two sets and the items of a slice.
 fn sets_and_slice(
     alloc: Global,
@@ -219,6 +234,7 @@ fn sets_with_a_slice(rt: HostRuntime) -> Result<(), Fail> {
     for key in [4u32, 3, 5] {
         b.insert(key)?;
     }
+    assert_eq!(rt; keys_of_union(alloc, &a, &b)?.as_slice(), [1, 3, 4, 5].as_slice());
     let c = [2u32, 3];
     assert_eq!(rt; sets_and_slice(alloc, &a, &b, &c)?.as_slice(), [2, 3, 5].as_slice());
     Ok(())
