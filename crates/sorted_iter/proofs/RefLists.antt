@@ -1,5 +1,5 @@
 -- The lists of streams whose items are references: what they point to.
-use Rattle.std.proofs.Common.{◌≡◌, Bool, true, false, List, [], ◌∷◌, ◌++◌, map, Option, Some, None, refl, sym, ap, ap₂, subst, ◌∙◌, true≢false, append-nil}
+use Rattle.std.proofs.Common.{◌≡◌, Bool, true, false, List, [], ◌∷◌, ◌++◌, map, Option, None, refl, sym, ap, ap₂, subst, ◌∙◌, true≢false}
 use Rattle.std.specs.Iterator.{Yields, DrainsIf, AlwaysYields}
 use Rattle.std.specs.Map.Iter.{TakesFirst, deref}
 use Rattle.std.specs.Borrow.{Bor}
@@ -29,11 +29,13 @@ module _ {S A D : Type 0} (view : A → D) (steps : S → Option A → S → Typ
         absurd cc),
     λ x j k.
         let b = h (x ∷ []) false (j, (j, k, refl), λ e. absurd (true≢false (sym e))) in
-        let e : z ∷ zs ≡ view x ∷ b.0 = b.1 in
-        (cc, all_runs zs j (λ ws w d.
-            let m = h (x ∷ ws) w (d.0, (j, k, d.1), d.2) in
-            let f : z ∷ zs ≡ view x ∷ (map view ws ++ m.0) = m.1 in
-            (m.0, cc, m.2))),
+        let e : z ∷ zs ≡ view x ∷ b.0 = b.1 in (
+          cc,
+          all_runs zs j (λ ws w d.
+              let m = h (x ∷ ws) w (d.0, (j, k, d.1), d.2) in
+              let f : z ∷ zs ≡ view x ∷ (map view ws ++ m.0) = m.1 in
+              (m.0, cc, m.2)),
+        ),
   )
 
   -- a run has the front of what always comes, and the rest may follow

@@ -80,10 +80,7 @@ where
     }
 
     /// The left items to which no item of `other` is equal, ascending.
-    final fn difference<J: SortedIterator<Item = Self::Item>>(
-        self,
-        other: J,
-    ) -> Difference<Self, J>
+    final fn difference<J: SortedIterator<Item = Self::Item>>(self, other: J) -> Difference<Self, J>
     where
         Self::Item: Drop,
         requires left { Self.in_order self }
@@ -128,7 +125,10 @@ where
     }
 }
 
-impl<I: SortedByItem> SortedIterator for I where I::Item: Ord {}
+impl<I: SortedByItem> SortedIterator for I
+where
+    I::Item: Ord,
+{}
 
 /// An iterator of which its maker knows that its items strictly ascend and that it stays ended.
 #[derive(Debug, Drop)]
