@@ -5,3 +5,4 @@ pub mod CutLemmas
 pub mod MergeLemmas
 pub mod StableLemmas
 pub mod WalkLemmas
+pub mod ViewLemmas

@@ -1,11 +1,11 @@
 -- What the walk along two ascending lists gives: the four set operations, each in order.
-use Rattle.std.proofs.Common.{◌≡◌, Bool, true, false, not, is_some, cond, List, [], ◌∷◌, ◌++◌, refl, sym, ap, ap₂, subst, ◌∙◌}
+use Rattle.std.proofs.Common.{◌≡◌, Bool, true, false, not, cond, List, [], ◌∷◌, ◌++◌, refl, sym, ap, ap₂, subst, ◌∙◌}
 use Rattle.std.specs.List.{AllByRecursion, filter}
 use Rattle.std.specs.List.Sorted.{IsStrictlySortedBy}
 use Rattle.std.specs.Cmp.{IsTotalOrder}
 use Rattle.std.specs.declared.cmp.Ordering.{Ordering}
 use Rattle.std.specs.declared.cmp.Ordering.TheVariants.{Less, Equal, Greater}
-use Rattle.std.specs.Ordering.{match_ordering, ordering_reverse}
+use Rattle.std.specs.Ordering.{ordering_reverse}
 use Rattle.std.proofs.lemmas.List.Kept.{IsStrictlySortedBy-filter}
 use Rattle.ordered_lists.specs.Lists.{has, add, union, intersection, difference, symmetric_difference}
 use Rattle.ordered_lists.specs.Walks.{keep, walk_from, walk}
@@ -151,25 +151,25 @@ module _ {A : Type 0} {cmp : A → A → Ordering} (o : IsTotalOrder cmp) where
     walk_from-kept x xs s h [] t = sym (merge-nil cmp _ ∙ filter-constant left (x ∷ xs))
     walk_from-kept x xs s h (y ∷ ys) t = by_order (λ l. l ≡ both_kept (x ∷ xs) (y ∷ ys)) (cmp x y) _ _ _
         (λ k.
-            let below : AllByRecursion (λ z. cmp x z ≡ Less) (y ∷ ys) = (k, below_all o x y ys k t.0) in
-            let lacks : has cmp (y ∷ ys) x ≡ false = lacks-below x (y ∷ ys) below in
-            let e = same_right x xs (y ∷ ys) below in
-            ap (keep left x) (h (y ∷ ys) t) ∙ keep-first left x _ _ (all_filter (λ z. cmp x z ≡ Less) (from_right xs) (y ∷ ys) below) ∙ ap₂ (merge cmp) (ap (λ b. keep (cond b both left) x (filter (from_left (y ∷ ys)) xs)) (sym lacks)) (sym e))
+        let below : AllByRecursion (λ z. cmp x z ≡ Less) (y ∷ ys) = (k, below_all o x y ys k t.0) in
+        let lacks : has cmp (y ∷ ys) x ≡ false = lacks-below x (y ∷ ys) below in
+        let e = same_right x xs (y ∷ ys) below in
+        ap (keep left x) (h (y ∷ ys) t) ∙ keep-first left x _ _ (all_filter (λ z. cmp x z ≡ Less) (from_right xs) (y ∷ ys) below) ∙ ap₂ (merge cmp) (ap (λ b. keep (cond b both left) x (filter (from_left (y ∷ ys)) xs)) (sym lacks)) (sym e))
         (λ k.
-            let back = equal_back o x y k in
-            let below = level_all o x y ys k t.0 in
-            let found : has cmp (y ∷ ys) x ≡ true = rw back refl in
-            let other : has cmp (x ∷ xs) y ≡ true = rw k refl in
-            let e = same_right x xs ys below in
-            let f = same_left y ys xs (level_all o y x xs back s.0) in
-            ap (keep both x) (h ys t.1) ∙ keep-first both x _ _ (all_filter (λ z. cmp x z ≡ Less) (from_right xs) ys below)
-            ∙ ap₂ (merge cmp) (ap (λ b. keep (cond b both left) x (filter (from_left ys) xs)) (sym found) ∙ ap (λ l. keep (from_left (y ∷ ys) x) x l) (sym f)) (sym e ∙ ap (λ b. keep (cond b false right) y (filter (from_right (x ∷ xs)) ys)) (sym other)))
+        let back = equal_back o x y k in
+        let below = level_all o x y ys k t.0 in
+        let found : has cmp (y ∷ ys) x ≡ true = rw back refl in
+        let other : has cmp (x ∷ xs) y ≡ true = rw k refl in
+        let e = same_right x xs ys below in
+        let f = same_left y ys xs (level_all o y x xs back s.0) in
+        ap (keep both x) (h ys t.1) ∙ keep-first both x _ _ (all_filter (λ z. cmp x z ≡ Less) (from_right xs) ys below)
+        ∙ ap₂ (merge cmp) (ap (λ b. keep (cond b both left) x (filter (from_left ys) xs)) (sym found) ∙ ap (λ l. keep (from_left (y ∷ ys) x) x l) (sym f)) (sym e ∙ ap (λ b. keep (cond b false right) y (filter (from_right (x ∷ xs)) ys)) (sym other)))
         (λ k.
-            let l = greater_less o x y k in
-            let below : AllByRecursion (λ z. cmp y z ≡ Less) (x ∷ xs) = (l, below_all o y x xs l s.0) in
-            let lacks : has cmp (x ∷ xs) y ≡ false = lacks-below y (x ∷ xs) below in
-            let e = same_left y ys (x ∷ xs) below in
-            ap (keep right y) (walk_from-kept x xs s h ys t.1) ∙ keep-second right y _ _ (all_filter (λ z. cmp y z ≡ Less) (from_left ys) (x ∷ xs) below) ∙ ap₂ (merge cmp) (sym e) (ap (λ b. keep (cond b false right) y (filter (from_right (x ∷ xs)) ys)) (sym lacks)))
+        let l = greater_less o x y k in
+        let below : AllByRecursion (λ z. cmp y z ≡ Less) (x ∷ xs) = (l, below_all o y x xs l s.0) in
+        let lacks : has cmp (x ∷ xs) y ≡ false = lacks-below y (x ∷ xs) below in
+        let e = same_left y ys (x ∷ xs) below in
+        ap (keep right y) (walk_from-kept x xs s h ys t.1) ∙ keep-second right y _ _ (all_filter (λ z. cmp y z ≡ Less) (from_left ys) (x ∷ xs) below) ∙ ap₂ (merge cmp) (sym e) (ap (λ b. keep (cond b false right) y (filter (from_right (x ∷ xs)) ys)) (sym lacks)))
 
     -- the walk merges what it keeps of either list
     walk-kept : (xs ys : List A) → IsStrictlySortedBy cmp xs → IsStrictlySortedBy cmp ys → walk cmp left both right xs ys ≡ both_kept xs ys

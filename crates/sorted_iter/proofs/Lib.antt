@@ -3,3 +3,4 @@ pub mod StreamLemmas
 pub mod WalkSteps
 pub mod SourceLists
 pub mod Literals
+pub mod RefLists

@@ -1,12 +1,11 @@
 -- The lists that sources give, and what a caller learns who collects a stream or loops over it.
-use Rattle.std.proofs.Common.{◌≡◌, ℕ, suc, Bool, true, false, List, [], ◌∷◌, ◌++◌, Option, Some, None, length, map, map-id, refl, sym, ap, ap₂, subst, ◌∙◌, arith, true≢false, append-nil}
+use Rattle.std.proofs.Common.{◌≡◌, true, List, [], ◌∷◌, Option, Some, None, length, map-id, refl, sym, ap, subst, ◌∙◌, arith}
 use Rattle.std.specs.Prelude.{IfOk, Result}
-use Rattle.std.specs.Iterator.{Yields, Drains, DrainsIf, AlwaysYields}
+use Rattle.std.specs.Iterator.{Yields, DrainsIf, AlwaysYields}
 use Rattle.std.specs.Iterator.Runs.{Run, EveryRun, ItemsAre}
 use Rattle.std.specs.Iterator.Adapters.{copied_steps, copied_source}
 use Rattle.std.specs.Option.{option_copied}
 use Rattle.std.specs.Borrow.{Bor}
-use Rattle.std.specs.Range.{range_steps}
 use Rattle.std.specs.Slice.Iter.{iter_rest, iter_steps}
 use Rattle.std.specs.Vec.{vec_items}
 use Rattle.std.specs.Vec.Iter.{into_iter_steps, into_iter_items}
@@ -14,10 +13,8 @@ use Rattle.std.specs.declared.vec.Vec.{Vec}
 use Rattle.std.specs.declared.vec.IntoIter.{IntoIter}
 use Rattle.std.specs.declared.slice.Iter.{Iter}
 use Rattle.std.specs.declared.iter.Copied.{Copied}
-use Rattle.std.specs.declared.ops.Range.{Range}
-use Rattle.std.specs.List.{range_with_len}
 use Rattle.std.proofs.iter.runs.Made.{run, took, seen}
-use Rattle.std.proofs.lemmas.Iterator.{items_from_drains, items_from_collect, IsCollectResult, YieldsList-from_range}
+use Rattle.std.proofs.lemmas.Iterator.{items_from_drains, items_from_collect, IsCollectResult}
 use Rattle.sorted_iter.specs.Orders.{GivesList}
 
 -- an iterator whose state shows the list of what is left

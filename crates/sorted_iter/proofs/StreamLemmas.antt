@@ -1,7 +1,7 @@
 -- What the four streams give: their order, their runs and their lists.
-use Rattle.std.proofs.Common.{◌≡◌, Bool, true, false, List, [], ◌∷◌, ◌++◌, Option, Some, None, length, refl, sym, ap, ap₂, subst, ◌∙◌, append_assoc, append-nil, true≢false}
+use Rattle.std.proofs.Common.{◌≡◌, Bool, true, false, List, [], ◌++◌, Option, refl, sym, ap, ap₂, subst, ◌∙◌, append_assoc, true≢false}
 use Rattle.std.specs.Iterator.{Yields, DrainsIf, AlwaysYields}
-use Rattle.std.specs.Iterator.Runs.{Run, SomeRun, EachRunFrom, IsIdenticalRun}
+use Rattle.std.specs.Iterator.Runs.{SomeRun, EachRunFrom, IsIdenticalRun}
 use Rattle.std.specs.Cmp.{IsTotalOrder}
 use Rattle.std.specs.List.Sorted.{IsStrictlySortedBy}
 use Rattle.std.specs.declared.cmp.Ordering.{Ordering}
@@ -10,8 +10,8 @@ use Rattle.ordered_lists.specs.Lists.{union, intersection, difference, symmetric
 use Rattle.ordered_lists.specs.Walks.{walk}
 use Rattle.ordered_lists.proofs.WalkLemmas.{walk-union, walk-intersection, walk-difference, walk-symmetric_difference}
 use Rattle.sorted_iter.specs.declared.sides.Sides.{Sides}
-use Rattle.sorted_iter.specs.Orders.{InOrder, GivesList, Begins, GivesOf, RunsAre, ListsAre}
-use Rattle.sorted_iter.specs.Lookahead.{ahead_of, pending, is_ended, MayFollow, Passes, AheadAscends}
+use Rattle.sorted_iter.specs.Orders.{InOrder, GivesList, Begins, RunsAre, ListsAre}
+use Rattle.sorted_iter.specs.Lookahead.{ahead_of, pending, is_ended, AheadAscends}
 use Rattle.sorted_iter.specs.LookaheadLemmas.{reads-drains, WillGive}
 use Rattle.sorted_iter.specs.TwoSides.{sides_of, sides_ascend, Gives, StepsTwo}
 use Rattle.sorted_iter.specs.TwoSidesLemmas.{Through, through-yields, through-always, yields-gives, gives-append, two-always}
@@ -76,10 +76,10 @@ module _ {S T A B C : Type 0} (op : List A → List B → List C) (firsts : S �
         left_ran = reads-drains firsts m.passed_left.read false (is_ended t.left.head) x t.left.source refl m.passed_left.calls;
         right_ran = reads-drains seconds m.passed_right.read false (is_ended t.right.head) y t.right.source refl m.passed_right.calls;
         front = λ xs ys i j. (
-              [],
-              read_and_rest m xs ys i j ∙ ap (λ l. (zs ++ []) ++ l) (last.ended _ _ (record { rest = xs; is = refl; at_end = i }) (record { rest = ys; is = refl; at_end = j })) ∙ append_assoc zs [] [],
-              λ _. refl,
-            );
+          [],
+          read_and_rest m xs ys i j ∙ ap (λ l. (zs ++ []) ++ l) (last.ended _ _ (record { rest = xs; is = refl; at_end = i }) (record { rest = ys; is = refl; at_end = j })) ∙ append_assoc zs [] [],
+          λ _. refl,
+        );
       }
 
 module _ {U S T A : Type 0} (left both right : Bool) (f : List A → List A → List A) (cmp : A → A → Ordering) (firsts : S → Option A → S → Type 0) (seconds : T → Option A → T → Type 0)
@@ -96,7 +96,7 @@ module _ {U S T A : Type 0} (left both right : Bool) (f : List A → List A → 
         let d = took p in
         let start : sides p.from ≡ sides_of x y = ap sides at ∙ fresh in
         let m = behind (walk cmp left both right) firsts seconds x y p.items p.whole
-            (sides d.0, subst (λ k. Yields (StepsTwo (walk cmp left both right) firsts seconds) k p.items (sides d.0)) start (through-yields sides (StepsTwo (walk cmp left both right) firsts seconds) p.items p.from d.0 d.1), λ w. (sides (d.2 w).0, (d.2 w).1)) in (
+        (sides d.0, subst (λ k. Yields (StepsTwo (walk cmp left both right) firsts seconds) k p.items (sides d.0)) start (through-yields sides (StepsTwo (walk cmp left both right) firsts seconds) p.items p.from d.0 d.1), λ w. (sides (d.2 w).0, (d.2 w).1)) in (
           run firsts x m.us m.left_whole m.left_ran,
           refl {a = x},
           (

@@ -1,8 +1,7 @@
 -- What a call of `take` says.
-use Rattle.std.proofs.Common.{◌≡◌, ◌≤◌, ◌+◌, inl, inr, Bool, true, false, List, [], ◌∷◌, ◌++◌, Option, Some, None, IfNone, refl, sym, ap, subst, ◌∙◌, true≢false, arith}
+use Rattle.std.proofs.Common.{◌≡◌, ◌≤◌, inl, inr, List, [], ◌∷◌, ◌++◌, Option, Some, None, IfNone, refl, sym, ap, subst, ◌∙◌, true≢false, arith}
 use Rattle.std.specs.Iterator.{Count, IsFinite, size, MakesProgress}
 use Rattle.sorted_iter.specs.declared.ahead.Ahead.{Ahead}
-use Rattle.sorted_iter.specs.declared.ahead.Head.{Head}
 use Rattle.sorted_iter.specs.declared.ahead.Head.TheVariants.{Unread, Held, Ended}
 use Rattle.sorted_iter.specs.Lookahead.{pending, is_ended, ahead_can, ahead_left, Reads, Passes, MayFollow, Takes}
 

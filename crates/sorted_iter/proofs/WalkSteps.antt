@@ -1,15 +1,14 @@
 -- A call of `next` on two sides, turn by turn of its loop.
-use Rattle.std.proofs.Common.{◌≡◌, ◌≤◌, ◌+◌, Bool, true, false, cond, List, [], ◌∷◌, ◌++◌, Option, Some, None, IfNone, option_to_list, refl, sym, ap, ap₂, subst, ◌∙◌, arith}
-use Rattle.std.specs.Iterator.{Count, IsFinite, size}
+use Rattle.std.proofs.Common.{◌≡◌, ◌≤◌, Bool, true, false, cond, List, [], ◌∷◌, ◌++◌, Option, Some, None, IfNone, option_to_list, refl, sym, ap, ap₂, subst, ◌∙◌, arith}
+use Rattle.std.specs.Iterator.{Count, size}
 use Rattle.std.specs.declared.cmp.Ordering.{Ordering}
 use Rattle.std.specs.declared.cmp.Ordering.TheVariants.{Less, Equal, Greater}
 use Rattle.ordered_lists.specs.Walks.{walk, keep}
 use Rattle.sorted_iter.specs.declared.ahead.Ahead.{Ahead}
-use Rattle.sorted_iter.specs.declared.ahead.Head.{Head}
 use Rattle.sorted_iter.specs.declared.ahead.Head.TheVariants.{Held}
 use Rattle.sorted_iter.specs.declared.sides.Sides.{Sides}
 use Rattle.sorted_iter.specs.declared.sides.Wants.{Wants}
-use Rattle.sorted_iter.specs.Lookahead.{pending, ahead_can, ahead_left, Takes, Passes, MayFollow}
+use Rattle.sorted_iter.specs.Lookahead.{pending, ahead_left, Takes, MayFollow}
 use Rattle.sorted_iter.specs.LookaheadLemmas.{passes-none}
 use Rattle.sorted_iter.specs.TwoSides.{Gives, StepsTwo, IsSpent, sides_can}
 use Rattle.sorted_iter.specs.TwoSidesLemmas.{gives-none, gives-append}

@@ -1,6 +1,6 @@
 -- The laws of the marks: of the streams of two sources, and of iterators whose states are known.
-use Rattle.std.proofs.Common.{◌≡◌, ℕ, suc, zero, Bool, List, [], ◌∷◌, Option, Some, None, sym, ap, subst, ◌∙◌}
-use Rattle.std.specs.Iterator.{Yields, YieldsThen}
+use Rattle.std.proofs.Common.{◌≡◌, ℕ, suc, zero, Bool, List, [], ◌∷◌, Option, Some, None, subst}
+use Rattle.std.specs.Iterator.{Yields}
 use Rattle.std.specs.Cmp.{IsTotalOrder}
 use Rattle.std.specs.List.{AllByRecursion}
 use Rattle.std.specs.List.Sorted.{IsStrictlySortedBy}
@@ -10,7 +10,6 @@ use Rattle.ordered_lists.specs.Walks.{walk}
 use Rattle.ordered_lists.proofs.WalkLemmas.{ascends-walk}
 use Rattle.sorted_iter.specs.declared.sides.Sides.{Sides}
 use Rattle.sorted_iter.specs.Orders.{Rests, InOrder}
-use Rattle.sorted_iter.specs.Lookahead.{AheadAscends}
 use Rattle.sorted_iter.specs.TwoSides.{StepsTwo, sides_ascend}
 use Rattle.sorted_iter.specs.TwoSidesLemmas.{Through, through-in_order, two-in_order}
 

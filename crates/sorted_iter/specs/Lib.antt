@@ -6,4 +6,4 @@ pub mod LookaheadLemmas
 pub mod TwoSidesLemmas
 pub mod Laws
 pub mod Sources
-pub mod RangeLaws
+pub mod StdLaws

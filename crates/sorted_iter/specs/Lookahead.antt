@@ -1,5 +1,5 @@
 -- A source in front of which an item may be held.
-use Rattle.std.specs.Prelude.{◌≡◌, ℕ, ◌+◌, ◌≤◌, ◌⊎◌, Bool, true, false, List, [], ◌∷◌, ◌++◌, Option, Some, None, MatchOption, option_to_list}
+use Rattle.std.specs.Prelude.{◌≡◌, ◌+◌, ◌≤◌, ◌⊎◌, Bool, true, false, List, [], ◌∷◌, ◌++◌, Option, Some, None, MatchOption, option_to_list}
 use Rattle.std.specs.Option.{option_len}
 use Rattle.std.specs.Iterator.{Count, IsFinite, size, at_most, count_map}
 use Rattle.std.specs.List.Sorted.{IsStrictlySortedBy}

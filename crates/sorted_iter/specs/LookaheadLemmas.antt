@@ -1,6 +1,6 @@
 -- What was passed of a source, and what may follow.
-use Rattle.std.proofs.Common.{◌≡◌, ◌⊎◌, inl, inr, Bool, true, false, List, [], ◌∷◌, ◌++◌, Option, Some, None, refl, sym, ap, ap₂, subst, ◌∙◌, append_assoc, append-nil, true≢false}
-use Rattle.std.specs.Iterator.{Yields, DrainsIf, AlwaysYields}
+use Rattle.std.proofs.Common.{◌≡◌, inl, inr, Bool, true, false, List, [], ◌∷◌, ◌++◌, Option, None, refl, sym, ap, ap₂, subst, ◌∙◌, append_assoc, append-nil, true≢false}
+use Rattle.std.specs.Iterator.{DrainsIf, AlwaysYields}
 use Rattle.sorted_iter.specs.declared.ahead.Ahead.{Ahead}
 use Rattle.sorted_iter.specs.Lookahead.{pending, is_ended, Reads, MayFollow, Passes}
 

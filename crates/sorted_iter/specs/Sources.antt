@@ -1,10 +1,8 @@
 -- When the items of a source are in order: what a caller cites at `assume_sorted_by_item`.
-use Rattle.std.proofs.Common.{◌≡◌, ℕ, suc, zero, ◌+◌, List, [], ◌∷◌, ◌++◌, Option, Some, None, MatchOption, length, refl, sym, ap, subst, ◌∙◌, arith, map}
-use Rattle.std.specs.Iterator.{Yields, YieldsFirstRef}
-use Rattle.std.specs.List.{AllByRecursion}
+use Rattle.std.proofs.Common.{◌≡◌, suc, List, [], ◌∷◌, ◌++◌, Option, Some, None, length, sym, ap, subst, ◌∙◌, arith, map}
+use Rattle.std.specs.Iterator.{Yields}
 use Rattle.std.specs.List.Sorted.{IsStrictlySortedBy}
 use Rattle.std.specs.declared.cmp.Ordering.{Ordering}
-use Rattle.std.specs.declared.cmp.Ordering.TheVariants.{Less}
 use Rattle.std.specs.declared.vec.IntoIter.{IntoIter}
 use Rattle.std.specs.declared.slice.Iter.{Iter}
 use Rattle.std.specs.declared.iter.Copied.{Copied}
@@ -14,6 +12,7 @@ use Rattle.std.specs.Iterator.Adapters.{copied_steps, copied_source}
 use Rattle.std.specs.Borrow.{Bor}
 use Rattle.std.specs.Option.{option_copied}
 use Rattle.ordered_lists.proofs.WalkLemmas.{ascends-front}
+use Rattle.ordered_lists.proofs.ViewLemmas.{ascends-by_view}
 use Rattle.sorted_iter.specs.Orders.{InOrder}
 use Rattle.sorted_iter.specs.Laws.{over_rests}
 
@@ -23,18 +22,9 @@ module _ {S A B : Type 0} (view : A → B) (steps : S → Option A → S → Typ
   shown [] s t e = ap rest e
   shown (x ∷ xs) s t e = (gives s e.0 x e.1).0 ∙ ap (λ l. view x ∷ l) (shown xs e.0 t e.2)
 
-  all_viewed : (cmp : B → B → Ordering) (b : A) (xs : List A) → AllByRecursion (λ y. cmp (view b) y ≡ Less) (map view xs) → AllByRecursion (λ y. cmp (view b) (view y) ≡ Less) xs
-  all_viewed cmp b [] h = tt
-  all_viewed cmp b (x ∷ xs) h = (h.0, all_viewed cmp b xs h.1)
-
-  viewed : (cmp : B → B → Ordering) (xs : List A) → IsStrictlySortedBy cmp (map view xs) → IsStrictlySortedBy (λ x y. cmp (view x) (view y)) xs
-  unfolding IsStrictlySortedBy
-  viewed cmp [] h = tt
-  viewed cmp (x ∷ xs) h = (all_viewed cmp x xs h.0, viewed cmp xs h.1)
-
   pub in_order-of_rest : (cmp : B → B → Ordering) (s : S) → IsStrictlySortedBy cmp (rest s) → InOrder (λ x y. cmp (view x) (view y)) steps s
   in_order-of_rest cmp s h = record {
-    ascends = λ xs t e. viewed cmp xs (ascends-front cmp (map view xs) (rest t) (subst (IsStrictlySortedBy cmp) (shown xs s t e) h));
+    ascends = λ xs t e. ascends-by_view view cmp xs (ascends-front cmp (map view xs) (rest t) (subst (IsStrictlySortedBy cmp) (shown xs s t e) h));
     stays_ended = λ xs t n u x v e f g. (gives u v x g).1 (over_rests steps Over ends n t u (ends e.0 t e.2) f);
   }
 

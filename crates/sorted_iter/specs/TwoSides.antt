@@ -1,5 +1,5 @@
 -- A stream of two sources: what one call of `next` says.
-use Rattle.std.specs.Prelude.{◌≡◌, ℕ, ◌+◌, ◌≤◌, Bool, true, false, List, [], ◌++◌, Option, IfNone, option_to_list}
+use Rattle.std.specs.Prelude.{◌≡◌, ◌+◌, ◌≤◌, false, List, [], ◌++◌, Option, IfNone, option_to_list}
 use Rattle.std.specs.Option.{option_len}
 use Rattle.std.specs.Iterator.{Count, IsFinite, size}
 use Rattle.std.specs.declared.cmp.Ordering.{Ordering}

@@ -1,12 +1,12 @@
 -- What follows from the steps of a stream of two sources.
-use Rattle.std.proofs.Common.{◌≡◌, ℕ, suc, zero, Bool, true, false, List, [], ◌∷◌, ◌++◌, Option, Some, None, IfNone, option_to_list, refl, sym, ap, ap₂, subst, ◌∙◌, append_assoc, append-nil, true≢false}
-use Rattle.std.specs.Iterator.{Yields, YieldsThen, AlwaysYields}
+use Rattle.std.proofs.Common.{◌≡◌, ℕ, suc, zero, List, [], ◌∷◌, ◌++◌, Option, Some, refl, sym, ap, ap₂, subst, ◌∙◌, append_assoc}
+use Rattle.std.specs.Iterator.{Yields, AlwaysYields}
 use Rattle.std.specs.List.Sorted.{IsStrictlySortedBy}
 use Rattle.std.specs.declared.cmp.Ordering.{Ordering}
 use Rattle.ordered_lists.proofs.WalkLemmas.{ascends-front}
 use Rattle.sorted_iter.specs.declared.sides.Sides.{Sides}
 use Rattle.sorted_iter.specs.Orders.{Rests, InOrder}
-use Rattle.sorted_iter.specs.Lookahead.{pending, MayFollow, AheadAscends}
+use Rattle.sorted_iter.specs.Lookahead.{pending, AheadAscends}
 use Rattle.sorted_iter.specs.LookaheadLemmas.{passes-none, passes-append, passes-follow, held-follows, WillGive, will-follow, passes-will}
 use Rattle.sorted_iter.specs.TwoSides.{Gives, IsSpent, StepsTwo}
 

@@ -35,7 +35,11 @@ where
     ghost remaining = { λ s. ahead_left I.remaining (difference_sides s).left };
 
     fn next(&mut self) -> Option<I::Item> {
-        self.sides.next(Wants { left: true, both: false, right: false })
+        self.sides.next(Wants {
+            left: true,
+            both: false,
+            right: false,
+        })
     }
 }
 

@@ -37,7 +37,11 @@ where
         (ahead_left J.remaining (intersection_sides s).right) };
 
     fn next(&mut self) -> Option<I::Item> {
-        self.sides.next(Wants { left: false, both: true, right: false })
+        self.sides.next(Wants {
+            left: false,
+            both: true,
+            right: false,
+        })
     }
 }
 

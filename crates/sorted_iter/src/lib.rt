@@ -14,7 +14,7 @@ pub use crate::ahead::{Ahead, Head};
 pub use crate::difference::Difference;
 pub use crate::intersection::Intersection;
 pub use crate::marks::{AssumeSortedByItem, AssumeSortedByItemExt, SortedByItem, SortedIterator};
-pub use crate::sides::{Sides, Wants};
+pub use crate::sides::Sides;
 pub use crate::symmetric_difference::SymmetricDifference;
 pub use crate::union::Union;
 

@@ -41,7 +41,8 @@ where
         requires left { Self.in_order self }
         requires right { J.in_order other }
         ensures sources { union_sides result ≡ sides_of self other }
-        ensures in_order { sides_ascend Self.Item.cmp Self.next_gives Self.Item.cmp J.next_gives (union_sides result) }
+        ensures in_order { sides_ascend Self.Item.cmp Self.next_gives Self.Item.cmp J.next_gives
+            (union_sides result) }
         ensures runs { RunsAre Self.Item.cmp (union Self.Item.cmp)
             (union_steps Self.Item.cmp Self.next_gives J.next_gives) result Self.next_gives self
             J.next_gives other }
@@ -64,7 +65,8 @@ where
         requires left { Self.in_order self }
         requires right { J.in_order other }
         ensures sources { intersection_sides result ≡ sides_of self other }
-        ensures in_order { sides_ascend Self.Item.cmp Self.next_gives Self.Item.cmp J.next_gives (intersection_sides result) }
+        ensures in_order { sides_ascend Self.Item.cmp Self.next_gives Self.Item.cmp J.next_gives
+            (intersection_sides result) }
         ensures runs { RunsAre Self.Item.cmp (intersection Self.Item.cmp)
             (intersection_steps Self.Item.cmp Self.next_gives J.next_gives) result Self.next_gives
             self J.next_gives other }
@@ -78,16 +80,14 @@ where
     }
 
     /// The left items to which no item of `other` is equal, ascending.
-    final fn difference<J: SortedIterator<Item = Self::Item>>(
-        self,
-        other: J,
-    ) -> Difference<Self, J>
+    final fn difference<J: SortedIterator<Item = Self::Item>>(self, other: J) -> Difference<Self, J>
     where
         Self::Item: Drop,
         requires left { Self.in_order self }
         requires right { J.in_order other }
         ensures sources { difference_sides result ≡ sides_of self other }
-        ensures in_order { sides_ascend Self.Item.cmp Self.next_gives Self.Item.cmp J.next_gives (difference_sides result) }
+        ensures in_order { sides_ascend Self.Item.cmp Self.next_gives Self.Item.cmp J.next_gives
+            (difference_sides result) }
         ensures runs { RunsAre Self.Item.cmp (difference Self.Item.cmp)
             (difference_steps Self.Item.cmp Self.next_gives J.next_gives) result Self.next_gives
             self J.next_gives other }
@@ -110,7 +110,8 @@ where
         requires left { Self.in_order self }
         requires right { J.in_order other }
         ensures sources { symmetric_difference_sides result ≡ sides_of self other }
-        ensures in_order { sides_ascend Self.Item.cmp Self.next_gives Self.Item.cmp J.next_gives (symmetric_difference_sides result) }
+        ensures in_order { sides_ascend Self.Item.cmp Self.next_gives Self.Item.cmp J.next_gives
+            (symmetric_difference_sides result) }
         ensures runs { RunsAre Self.Item.cmp (symmetric_difference Self.Item.cmp)
             (symmetric_difference_steps Self.Item.cmp Self.next_gives J.next_gives) result
             Self.next_gives self J.next_gives other }
@@ -124,7 +125,10 @@ where
     }
 }
 
-impl<I: SortedByItem> SortedIterator for I where I::Item: Ord {}
+impl<I: SortedByItem> SortedIterator for I
+where
+    I::Item: Ord,
+{}
 
 /// An iterator of which its maker knows that its items strictly ascend and that it stays ended.
 #[derive(Debug, Drop)]

@@ -1,7 +1,7 @@
 //! The marks of std's iterators.
 ghost use Rattle.std.specs.Prelude.{⊤};
 ghost use Rattle.std.specs.List.Sorted.{IsStrictlySortedBy};
-ghost use Rattle.sorted_iter.specs.RangeLaws.{nat_range-in_order, int_range-in_order, nat_range_inclusive-in_order, int_range_inclusive-in_order, keys-in_order};
+ghost use Rattle.sorted_iter.specs.StdLaws.{nat_range-in_order, int_range-in_order, nat_range_inclusive-in_order, int_range_inclusive-in_order, keys-in_order};
 
 use crate::marks::SortedByItem;
 use std::collections::btree_set;

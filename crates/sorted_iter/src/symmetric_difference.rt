@@ -37,7 +37,11 @@ where
         (ahead_left J.remaining (symmetric_difference_sides s).right) };
 
     fn next(&mut self) -> Option<I::Item> {
-        self.sides.next(Wants { left: true, both: false, right: true })
+        self.sides.next(Wants {
+            left: true,
+            both: false,
+            right: true,
+        })
     }
 }
 

@@ -1,5 +1,6 @@
 //! Callers of the streams, each proved to learn the list that it gets, and lists that people know.
 #![tactic(auto, using(crate::specs::Sources::sources, crate::proofs::Literals::literals))]
+
 ghost use Rattle.std.specs.Prelude.{◌≡◌, IfOk};
 ghost use Rattle.std.specs.List.Sorted.{IsStrictlySortedBy};
 ghost use Rattle.std.specs.Ordering.{nat_cmp};
@@ -85,7 +86,10 @@ fn the_four_operations_on_two_lists(rt: HostRuntime) -> Result<(), Fail> {
     assert_eq!(rt; union_of(alloc, &a, &b)?.as_slice(), [1, 2, 3].as_slice());
     assert_eq!(rt; intersection_of(alloc, &a, &b)?.as_slice(), [2].as_slice());
     assert_eq!(rt; difference_of(alloc, &a, &b)?.as_slice(), [1].as_slice());
-    assert_eq!(rt; symmetric_difference_of(alloc, &a, &b)?.as_slice(), [1, 3].as_slice());
+    assert_eq!(rt;
+        symmetric_difference_of(alloc, &a, &b)?.as_slice(),
+        [1, 3].as_slice()
+    );
     Ok(())
 }
 
@@ -94,10 +98,22 @@ fn what_is_left_of_one_side_comes_last(rt: HostRuntime) -> Result<(), Fail> {
     let alloc = rt.alloc();
     let a = [2u32, 5];
     let b = [1u32, 2, 3, 4];
-    assert_eq!(rt; union_of(alloc, &a, &b)?.as_slice(), [1, 2, 3, 4, 5].as_slice());
-    assert_eq!(rt; union_of(alloc, &b, &a)?.as_slice(), [1, 2, 3, 4, 5].as_slice());
-    assert_eq!(rt; difference_of(alloc, &b, &a)?.as_slice(), [1, 3, 4].as_slice());
-    assert_eq!(rt; symmetric_difference_of(alloc, &b, &a)?.as_slice(), [1, 3, 4, 5].as_slice());
+    assert_eq!(rt;
+        union_of(alloc, &a, &b)?.as_slice(),
+        [1, 2, 3, 4, 5].as_slice()
+    );
+    assert_eq!(rt;
+        union_of(alloc, &b, &a)?.as_slice(),
+        [1, 2, 3, 4, 5].as_slice()
+    );
+    assert_eq!(rt;
+        difference_of(alloc, &b, &a)?.as_slice(),
+        [1, 3, 4].as_slice()
+    );
+    assert_eq!(rt;
+        symmetric_difference_of(alloc, &b, &a)?.as_slice(),
+        [1, 3, 4, 5].as_slice()
+    );
     assert_eq!(rt; intersection_of(alloc, &b, &a)?.as_slice(), [2].as_slice());
     Ok(())
 }
@@ -109,7 +125,10 @@ fn an_empty_side(rt: HostRuntime) -> Result<(), Fail> {
     let none: [u32; 0] = [];
     assert_eq!(rt; union_of(alloc, &a, &none)?.as_slice(), [1, 2].as_slice());
     assert_eq!(rt; union_of(alloc, &none, &a)?.as_slice(), [1, 2].as_slice());
-    assert_eq!(rt; difference_of(alloc, &a, &none)?.as_slice(), [1, 2].as_slice());
+    assert_eq!(rt;
+        difference_of(alloc, &a, &none)?.as_slice(),
+        [1, 2].as_slice()
+    );
     assert!(rt; difference_of(alloc, &none, &a)?.is_empty());
     assert!(rt; intersection_of(alloc, &a, &none)?.is_empty());
     assert!(rt; symmetric_difference_of(alloc, &none, &none)?.is_empty());
@@ -122,7 +141,10 @@ fn a_union_of_a_union(rt: HostRuntime) -> Result<(), Fail> {
     let a = vec![in alloc; 1u32, 4]?;
     let b = vec![in alloc; 2u32, 4]?;
     let c = vec![in alloc; 3u32, 4, 5]?;
-    assert_eq!(rt; union_of_three(alloc, a, b, c)?.as_slice(), [1, 2, 3, 4, 5].as_slice());
+    assert_eq!(rt;
+        union_of_three(alloc, a, b, c)?.as_slice(),
+        [1, 2, 3, 4, 5].as_slice()
+    );
     Ok(())
 }
 
@@ -160,8 +182,26 @@ fn labels_of(
 #[test]
 fn of_two_equal_items_the_left_one_comes(rt: HostRuntime) -> Result<(), Fail> {
     let alloc = rt.alloc();
-    let a = [Tag { number: 1, label: 'a' }, Tag { number: 7, label: 'b' }];
-    let b = [Tag { number: 7, label: 'x' }, Tag { number: 8, label: 'y' }];
+    let a = [
+        Tag {
+            number: 1,
+            label: 'a',
+        },
+        Tag {
+            number: 7,
+            label: 'b',
+        },
+    ];
+    let b = [
+        Tag {
+            number: 7,
+            label: 'x',
+        },
+        Tag {
+            number: 8,
+            label: 'y',
+        },
+    ];
     let (either, shared, apart) = labels_of(alloc, &a, &b)?;
     assert_eq!(rt; either.as_slice(), ['a', 'b', 'y'].as_slice());
     assert_eq!(rt; shared.as_slice(), ['b'].as_slice());
@@ -183,7 +223,10 @@ fn ranges_with_a_vector(rt: HostRuntime) -> Result<(), Fail> {
     let last: Vec<u8> = (250..=255u8).intersection(253..=255u8).collect(alloc)?;
     assert_eq!(rt; last.as_slice(), [253, 254, 255].as_slice());
     let odd = [1u32, 3, 9];
-    assert_eq!(rt; with_range(alloc, &odd)?.as_slice(), [1, 2, 4, 9].as_slice());
+    assert_eq!(rt;
+        with_range(alloc, &odd)?.as_slice(),
+        [1, 2, 4, 9].as_slice()
+    );
     Ok(())
 }
 
@@ -193,6 +236,21 @@ fn with_range(alloc: Global, a: &[u32]) -> Result<Vec<u32>, AllocError>
 {
     let given = a.iter().copied().assume_sorted_by_item();
     (2..5u32).symmetric_difference(given).collect(alloc)
+}
+
+/// The keys of two sets: a loop over references.
+fn keys_of_union<K: Ord + Copy>(
+    alloc: Global,
+    a: &BTreeSet<K>,
+    b: &BTreeSet<K>,
+) -> Result<Vec<K>, AllocError>
+    ensures { IfOk result (λ v. v.items ≡ union K.cmp a.now.keys b.now.keys) }
+{
+    let mut all = Vec::new(alloc);
+    for key in a.iter().union(b.iter()) {
+        all.push(*key)?;
+    }
+    Ok(all)
 }
 
 /// The keys of two sets and the items of a slice.
@@ -205,7 +263,10 @@ fn sets_and_slice(
     requires { IsStrictlySortedBy nat_cmp c.now }
 {
     let shared = a.iter().intersection(b.iter());
-    shared.union(c.iter().assume_sorted_by_item()).copied().collect(alloc)
+    shared
+        .union(c.iter().assume_sorted_by_item())
+        .copied()
+        .collect(alloc)
 }
 
 #[test]
@@ -219,7 +280,14 @@ fn sets_with_a_slice(rt: HostRuntime) -> Result<(), Fail> {
     for key in [4u32, 3, 5] {
         b.insert(key)?;
     }
+    assert_eq!(rt;
+        keys_of_union(alloc, &a, &b)?.as_slice(),
+        [1, 3, 4, 5].as_slice()
+    );
     let c = [2u32, 3];
-    assert_eq!(rt; sets_and_slice(alloc, &a, &b, &c)?.as_slice(), [2, 3, 5].as_slice());
+    assert_eq!(rt;
+        sets_and_slice(alloc, &a, &b, &c)?.as_slice(),
+        [2, 3, 5].as_slice()
+    );
     Ok(())
 }

@@ -37,7 +37,11 @@ where
         (ahead_left J.remaining (union_sides s).right) };
 
     fn next(&mut self) -> Option<I::Item> {
-        self.sides.next(Wants { left: true, both: true, right: true })
+        self.sides.next(Wants {
+            left: true,
+            both: true,
+            right: true,
+        })
     }
 }
 

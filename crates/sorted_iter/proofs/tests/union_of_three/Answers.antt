@@ -1,4 +1,3 @@
-use Rattle.std.proofs.Common.{rules}
 use Rattle.ordered_lists.proofs.WalkLemmas.{ascends-union}
 use Rattle.sorted_iter.proofs.SourceLists.{list-of_into_iter, items-of_collect}
 use Rattle.sorted_iter.proofs.tests.union_of_three.Goals as goal

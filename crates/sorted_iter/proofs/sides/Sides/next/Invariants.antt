@@ -1,8 +1,6 @@
-use Rattle.std.proofs.Common.{◌≡◌, ◌+◌, ◌≤◌, []}
-use Rattle.std.specs.Iterator.{IsFinite, size}
-use Rattle.ordered_lists.specs.Walks.{walk}
+use Rattle.std.proofs.Common.{◌+◌}
+use Rattle.std.specs.Iterator.{size}
 use Rattle.sorted_iter.specs.Lookahead.{ahead_left}
-use Rattle.sorted_iter.specs.TwoSides.{Gives, Nears, sides_can}
 use Rattle.sorted_iter.proofs.WalkSteps.{Walked}
 use Rattle.sorted_iter.proofs.sides.Sides.next.Given as goal
 

@@ -1,11 +1,10 @@
 -- The laws of the marks of std's iterators.
-use Rattle.std.proofs.Common.{◌≡◌, ℕ, ◌+◌, ◌-◌, ◌<◌, ◌≤◌, Bool, true, false, List, [], ◌∷◌, Option, Some, None, refl, sym, ap, subst, ◌∙◌, arith}
+use Rattle.std.proofs.Common.{◌≡◌, ℕ, ◌+◌, ◌-◌, ◌<◌, Bool, true, false, List, [], ◌∷◌, refl, sym, ap, ◌∙◌, arith}
 use Rattle.std.proofs.lemmas.Int.{ints}
 use Rattle.std.specs.Prelude.{ℤ, pos, ◌+ℤ◌, ◌<ℤ◌}
 use Rattle.std.specs.Range.{range_steps, range_inclusive_steps, range_inclusive_left, range_inclusive_len, range_inclusive_start, range_inclusive_end, range_inclusive_exhausted}
 use Rattle.std.specs.Cmp.{IsTotalOrder, ranks, nat_cmp_total, int_cmp_total, int_cmp_is}
 use Rattle.std.specs.Int.{int_gap}
-use Rattle.std.specs.Borrow.{Bor}
 use Rattle.std.specs.List.Sorted.{IsStrictlySortedBy}
 use Rattle.std.specs.Map.Iter.{TakesFirst, deref}
 use Rattle.std.specs.Ordering.{nat_cmp, int_cmp, MatchOrdering}
@@ -36,8 +35,8 @@ module _ {A : Type 0} {cmp : A → A → Ordering} (o : IsTotalOrder cmp) (gap :
   range_inclusive-in_order = in_order-by_bound cmp (range_inclusive_steps gap follows) (λ b s. range_inclusive_exhausted s ≡ false → cmp b (range_inclusive_start s) ≡ Less) (λ s. range_inclusive_left gap s ≡ 0)
       (λ s t x k e. ap (λ z. cmp z (range_inclusive_start t)) k.1.0 ∙ up (range_inclusive_start s) (range_inclusive_start t) (k.1.2 e))
       (λ s t x b k h.
-          let l = h (begun_at s t k.1.1) in
-          (ap (cmp b) k.1.0 ∙ l, λ e. o.trans b (range_inclusive_start s) (range_inclusive_start t) l (up (range_inclusive_start s) (range_inclusive_start t) (k.1.2 e))))
+      let l = h (begun_at s t k.1.1) in
+      (ap (cmp b) k.1.0 ∙ l, λ e. o.trans b (range_inclusive_start s) (range_inclusive_start t) l (up (range_inclusive_start s) (range_inclusive_start t) (k.1.2 e))))
       (λ s t k. ap (range_inclusive_left gap) k.1.1 ∙ k.1.0)
       (λ s t x k h. let l = k.1.1 in omega arith)
 
