@@ -105,8 +105,8 @@ module _ {K V : Type 0} (cmp : K → K → Ordering) where
         | Greater ↦ λ e. refl
       ] none
     where
-    if_eq : Ordering → Option (K × V)
-    if_eq r = Rattle.std.specs.Prelude.if◌then◌else◌ (is_eq r) (Some p) (find (to_key cmp) ps k)
+      if_eq : Ordering → Option (K × V)
+      if_eq r = Rattle.std.specs.Prelude.if◌then◌else◌ (is_eq r) (Some p) (find (to_key cmp) ps k)
 
   pub pair_found : (ps : List (K × V)) (k : K) (i : ℕ) → IsFound (λ (p : K × V). p.0) cmp ps k i → IsPairFound cmp ps k i
   pair_found ps k i at = record {

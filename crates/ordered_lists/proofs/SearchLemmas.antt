@@ -109,9 +109,9 @@ module _ {A K : Type 0} (key : A → K) (cmp : K → K → Ordering) where
     found xs a k i at =
         let here : (j : ℕ) (d : A) → j ≡ i → cmp (key (get_or xs j d)) k ≡ Equal = λ j d e. ap (λ n. cmp (key (get_or xs n d)) k) e ∙ at.equal d in
         let back : AllWithin (λ x. is_lt (cmp (key x) k) ≡ false) xs i (length xs) = λ j d low lt.
-            elim (cases_lt i j) [ | inl above ↦ ap is_lt (after_at xs a k i at j d (omega arith) lt) | inr same ↦ ap is_lt (here j d (omega arith)) ] in
+        elim (cases_lt i j) [ inl above ↦ ap is_lt (after_at xs a k i at j d (omega arith) lt) | inr same ↦ ap is_lt (here j d (omega arith)) ] in
         let front : AllWithin (λ x. is_le (cmp (key x) k) ≡ true) xs 0 (i + 1) = λ j d low lt.
-            elim (cases_lt j i) [ | inl before ↦ ap is_le (at.less j d low before) | inr same ↦ ap is_le (here j d (omega arith)) ] in
+        elim (cases_lt j i) [ inl before ↦ ap is_le (at.less j d low before) | inr same ↦ ap is_le (here j d (omega arith)) ] in
         record {
           in_range = at.in_range;
           finds = find_at xs k i at;
@@ -126,8 +126,11 @@ module _ {A K : Type 0} (key : A → K) (cmp : K → K → Ordering) where
         → IsSearchInRange r (length xs) → IsBinarySearchResult (λ x. cmp (key x) k) xs r
         → record { found : IfOk r (IsFound key cmp xs k); missing : IfErr r (IsMissing key cmp xs k) }
     searched xs a k (Ok i) in_range equal = record {
-      found = found xs a k i (record { in_range = in_range; equal = equal;
-        less = λ j d low lt. sym (alike_right o (key (get_or xs i d)) k (key (get_or xs j d)) (equal d)) ∙ ascends (λ x y. cmp (key x) (key y)) xs a j i d lt in_range });
+      found = found xs a k i (record {
+        in_range = in_range;
+        equal = equal;
+        less = λ j d low lt. sym (alike_right o (key (get_or xs i d)) k (key (get_or xs j d)) (equal d)) ∙ ascends (λ x y. cmp (key x) (key y)) xs a j i d lt in_range;
+      });
       missing = tt;
     }
     searched xs a k (Err i) in_range parted =
@@ -140,10 +143,10 @@ module _ {A K : Type 0} (key : A → K) (cmp : K → K → Ordering) where
     after_last xs a k x is less =
         let last : (d : A) → get_or xs (length xs - 1) d ≡ x = λ d. by_place xs (length xs - 1) x d is in
         let all : AllWithin (λ y. cmp (key y) k ≡ Less) xs 0 (length xs) = λ j d low lt.
-            elim (cases_lt j (length xs - 1)) [
-              | inl before ↦ o.trans (key (get_or xs j d)) (key x) k (ap (λ y. cmp (key (get_or xs j d)) (key y)) (sym (last d)) ∙ ascends (λ y z. cmp (key y) (key z)) xs a j (length xs - 1) d before (omega arith)) less
-              | inr end ↦ let same : j ≡ length xs - 1 = omega arith in ap (λ n. cmp (key (get_or xs n d)) k) same ∙ ap (λ y. cmp (key y) k) (last d) ∙ less
-            ] in
+        elim (cases_lt j (length xs - 1)) [
+          | inl before ↦ o.trans (key (get_or xs j d)) (key x) k (ap (λ y. cmp (key (get_or xs j d)) (key y)) (sym (last d)) ∙ ascends (λ y z. cmp (key y) (key z)) xs a j (length xs - 1) d before (omega arith)) less
+          | inr end ↦ let same : j ≡ length xs - 1 = omega arith in ap (λ n. cmp (key (get_or xs n d)) k) same ∙ ap (λ y. cmp (key y) k) (last d) ∙ less
+        ] in
         missing xs k (length xs) (record { in_range = omega arith; less = all; greater = λ j d low lt. absurd (omega arith) })
 
 pub by_lt : (r : Ordering) → is_lt r ≡ true → r ≡ Less

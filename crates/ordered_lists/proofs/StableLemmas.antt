@@ -90,7 +90,7 @@ module _ {A : Type 0} (cmp : A → A → Ordering) (o : IsTotalOrder cmp) where
       (λ e. let none : find cmp (y ∷ ys) x ≡ None = find_below (y ∷ ys) x (e, below_all o x y ys e b.0) in let some = find_self x xs in cc)
       (λ e. let back : cmp y x ≡ Equal = tied_back o x y e in let there : find cmp (y ∷ ys) x ≡ Some y = rw back in same_some x y (sym (find_self x xs) ∙ h ∙ there))
       (λ e. let less = greater_less o x y e in
-          let none : find cmp (x ∷ xs) y ≡ None = find_below (x ∷ xs) y (less, below_all o y x xs less a.0) in let some = find_self y ys in cc)
+      let none : find cmp (x ∷ xs) y ≡ None = find_below (x ∷ xs) y (less, below_all o y x xs less a.0) in let some = find_self y ys in cc)
 
   -- lists in order in which the same is found are the same
   pub same_by_find : (xs ys : List A) → IsStrictlySortedBy cmp xs → IsStrictlySortedBy cmp ys → ((k : A) → find cmp xs k ≡ find cmp ys k) → xs ≡ ys
@@ -111,8 +111,8 @@ module _ {A : Type 0} (cmp : A → A → Ordering) (o : IsTotalOrder cmp) where
   pub sorted_sets : (xs new sorted : List A) → IsStrictlySortedBy cmp xs → IsStableBy (λ x y. is_lt (cmp x y)) new sorted → sets cmp xs sorted ≡ sets cmp xs new
   sorted_sets xs new sorted a stable =
       same_by_find _ _ (sets_ascend cmp o xs sorted a) (sets_ascend cmp o xs new a) (λ k.
-        let same : filter (λ x. is_eq (cmp x k)) sorted ≡ filter (λ x. is_eq (cmp x k)) new = subst (λ (t : A → Bool). filter t sorted ≡ filter t new) (λ i x. tie_is k x i) (stable k) in
-        find_sets xs sorted k ∙ ap (last_of (find cmp xs k)) same ∙ sym (find_sets xs new k))
+      let same : filter (λ x. is_eq (cmp x k)) sorted ≡ filter (λ x. is_eq (cmp x k)) new = subst (λ (t : A → Bool). filter t sorted ≡ filter t new) (λ i x. tie_is k x i) (stable k) in
+      find_sets xs sorted k ∙ ap (last_of (find cmp xs k)) same ∙ sym (find_sets xs new k))
 
   -- no item is greater than one after it
   Rises : List A → Type 0
@@ -131,9 +131,10 @@ module _ {A : Type 0} (cmp : A → A → Ordering) (o : IsTotalOrder cmp) where
   rises_by_far : (xs : List A) → ((i j : ℕ) (d : A) → i ≤ j → j < length xs → is_lt (cmp (get_or xs j d) (get_or xs i d)) ≡ false) → Rises xs
   unfolding Rises
   rises_by_far [] h = tt
-  rises_by_far (x ∷ xs) h =
-      (all_from_places (λ y. is_gt (cmp x y) ≡ false) xs (λ j d lt. not_greater _ (ap is_lt (sym (o.antisymm _ _)) ∙ h 0 (suc j) d (omega arith) (omega arith))),
-       rises_by_far xs (λ i j d le lt. h (suc i) (suc j) d (omega arith) (omega arith)))
+  rises_by_far (x ∷ xs) h = (
+    all_from_places (λ y. is_gt (cmp x y) ≡ false) xs (λ j d lt. not_greater _ (ap is_lt (sym (o.antisymm _ _)) ∙ h 0 (suc j) d (omega arith) (omega arith))),
+    rises_by_far xs (λ i j d le lt. h (suc i) (suc j) d (omega arith) (omega arith)),
+  )
 
   rises_sorted : (xs : List A) → IsSorted cmp xs → Rises xs
   rises_sorted xs up = rises_by_far xs (λ i j d le lt. sorted_far (λ x y. is_lt (cmp x y)) (ranks_by o (λ x. x)) xs up i j d le lt)
@@ -144,9 +145,9 @@ module _ {A : Type 0} (cmp : A → A → Ordering) (o : IsTotalOrder cmp) where
   set_twice (y ∷ xs) k x e =
       let same : cmp y x ≡ cmp y k = alike_right o x k y e in
       rw same (cases (λ r. set cmp (match_ordering r (y ∷ set cmp xs k) (k ∷ xs) (k ∷ y ∷ xs)) x ≡ match_ordering r (y ∷ set cmp xs x) (x ∷ xs) (x ∷ y ∷ xs)) (cmp y k)
-        (λ f. rw (same, f) (ap (λ t. y ∷ t) (set_twice xs k x e)))
-        (λ f. rw (tied_back o _ _ e))
-        (λ f. rw (tied_back o _ _ e)))
+      (λ f. rw (same, f) (ap (λ t. y ∷ t) (set_twice xs k x e)))
+      (λ f. rw (tied_back o _ _ e))
+      (λ f. rw (tied_back o _ _ e)))
 
   -- what `dedup_by` leaves, where its closure keeps the later of two equal items
   module _ {S : Type 0} (R : S → A → A → Bool → S → A → A → Type 0)
