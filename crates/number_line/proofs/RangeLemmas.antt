@@ -1,7 +1,7 @@
-use Rattle.std.proofs.Common.{◌≡◌, ℕ, List, [], ◌∷◌, refl, ap, arith, sym, ◌∙◌}
-use Rattle.std.specs.Prelude.{ℤ, pos, ◌+ℤ◌, ◌≤ℤ◌, ◌<ℤ◌, Bool, true, false, ◌&&◌, ◌||◌, int_le, int_lt, ◌⊎◌}
+use Rattle.std.proofs.Common.{◌≡◌, List, [], ◌∷◌, refl, arith, sym, ◌∙◌}
+use Rattle.std.specs.Prelude.{ℤ, pos, ◌+ℤ◌, ◌≤ℤ◌, ◌<ℤ◌, Bool, true, false, ◌&&◌, ◌||◌, int_le}
 use Rattle.std.proofs.lemmas.Int.{ints, by_lt_z}
-use Rattle.number_line.specs.Ranges.{lies_in, holds, IsCanonical}
+use Rattle.number_line.specs.Ranges.{holds, IsCanonical}
 
 -- below the start of a canonical list no number is held
 pub below_start : (lo hi : ℤ) (rs : List (ℤ × ℤ)) (x : ℤ) → IsCanonical lo hi rs → x <ℤ lo → holds rs x ≡ false
@@ -27,9 +27,9 @@ rest_holds r rest x h =
     let b : int_le x r.1 ≡ false = grind (arith, ints) in
     rest_holds_at (int_le r.0 x) (int_le x r.1) (holds rest x) b
   where
-  rest_holds_at : (p q h : Bool) → q ≡ false → (p && q || h) ≡ h
-  rest_holds_at true q h e = rw e
-  rest_holds_at false q h e = refl
+    rest_holds_at : (p q h : Bool) → q ≡ false → (p && q || h) ≡ h
+    rest_holds_at true q h e = rw e
+    rest_holds_at false q h e = refl
 
 -- x is y, where neither is below the other
 pub same_number : (x y : ℤ) → (x <ℤ y → ⊥) → (y <ℤ x → ⊥) → x ≡ y
@@ -78,6 +78,6 @@ same_list lo hi (r ∷ ra) (t ∷ tb) c d h =
     let end : r.1 ≡ t.1 = same_number r.1 t.1 (no_shorter lo hi r t ra tb c d h start) (no_shorter lo hi t r tb ra d c h' (sym start)) in
     let d3 : IsCanonical (r.1 +ℤ pos 2) hi tb = from_lower (t.1 +ℤ pos 2) (r.1 +ℤ pos 2) hi tb (omega (arith, ints)) d.3 in
     let rest : ra ≡ tb = same_list (r.1 +ℤ pos 2) hi ra tb c.3 d3 (λ x p q.
-        sym (rest_holds r ra x (omega (arith, ints))) ∙ (h x (omega (arith, ints)) q ∙ rest_holds t tb x (omega (arith, ints)))) in
+    sym (rest_holds r ra x (omega (arith, ints))) ∙ (h x (omega (arith, ints)) q ∙ rest_holds t tb x (omega (arith, ints)))) in
     let pair : r ≡ t = pair_of r t start end in
     cc

@@ -1,7 +1,7 @@
-use Rattle.std.proofs.Common.{◌≡◌, ℕ, zero, suc, ◌+◌, List, [], ◌∷◌, refl, ap, arith, sym, ◌∙◌}
-use Rattle.std.specs.Prelude.{ℤ, pos, ◌+ℤ◌, ◌-ℤ◌, ◌≤ℤ◌, ◌<ℤ◌, Bool, true, false, ◌⊎◌, if◌then◌else◌, cond, unsigned_abs}
+use Rattle.std.proofs.Common.{◌≡◌, ℕ, zero, suc, List, [], ◌∷◌, refl, arith, sym, ◌∙◌}
+use Rattle.std.specs.Prelude.{ℤ, pos, ◌+ℤ◌, ◌-ℤ◌, ◌≤ℤ◌, ◌<ℤ◌, Bool, true, false, if◌then◌else◌, unsigned_abs}
 use Rattle.std.proofs.lemmas.Int.{ints, by_lt_z}
-use Rattle.number_line.specs.Ranges.{lies_in, holds, IsCanonical}
+use Rattle.number_line.specs.Ranges.{holds, IsCanonical}
 use Rattle.number_line.specs.Segments.{Segment, put_before, segments, IsCut, true_ranges, same_bool, runs}
 use Rattle.number_line.proofs.RangeLemmas.{same_number, first_holds, rest_holds, from_lower, below_start, same_list}
 
@@ -15,9 +15,9 @@ module _ {L : Type 0} (same : L → L → Bool) (f : ℤ → L) (hi : ℤ) where
   put_before_cut lo [] h c = absurd (omega (arith, ints))
   put_before_cut lo (s ∷ rest) h c = at (same (f lo) s.label) refl
     where
-    at : (b : Bool) → same (f lo) s.label ≡ b → IsCut same f hi lo (if b then record { first = lo; last = s.last; label = f lo } ∷ rest else record { first = lo; last = lo; label = f lo } ∷ s ∷ rest)
-    at true e = (refl, omega (arith, ints), c.2, refl, (λ x p q. by_lt_z lo x (λ k. c.4 x (omega (arith, ints)) q) (λ k. let z : x ≡ lo = omega (arith, ints) in rw (z, ← c.3) e)), c.5, c.6)
-    at false e = (refl, omega (arith, ints), omega (arith, ints), refl, (λ x p q. absurd (omega (arith, ints))), (λ k. rw (← c.3) e), c)
+      at : (b : Bool) → same (f lo) s.label ≡ b → IsCut same f hi lo (if b then record { first = lo; last = s.last; label = f lo } ∷ rest else record { first = lo; last = lo; label = f lo } ∷ s ∷ rest)
+      at true e = (refl, omega (arith, ints), c.2, refl, (λ x p q. by_lt_z lo x (λ k. c.4 x (omega (arith, ints)) q) (λ k. let z : x ≡ lo = omega (arith, ints) in rw (z, ← c.3) e)), c.5, c.6)
+      at false e = (refl, omega (arith, ints), omega (arith, ints), refl, (λ x p q. absurd (omega (arith, ints))), (λ k. rw (← c.3) e), c)
 
   -- the segments are a cut
   pub segments_cut : (lo : ℤ) (n : ℕ) → hi ≡ lo +ℤ pos n → IsCut same f hi lo (segments same f lo n)
@@ -43,8 +43,8 @@ module _ {L : Type 0} (same : L → L → Bool) (f : ℤ → L) (hi : ℤ) where
       let one : s ≡ t = segment_of s t (c.0 ∙ sym d.0) end (c.3 ∙ sym d.3) in
       cc
     where
-    segment_of : (s t : Segment L) → s.first ≡ t.first → s.last ≡ t.last → s.label ≡ t.label → s ≡ t
-    segment_of s t p q r = λ i. record { first = p i; last = q i; label = r i }
+      segment_of : (s t : Segment L) → s.first ≡ t.first → s.last ≡ t.last → s.label ≡ t.label → s ≡ t
+      segment_of s t p q r = λ i. record { first = p i; last = q i; label = r i }
 
   -- a list that is a cut is the segments
   pub cut_is_segments : (lo : ℤ) (n : ℕ) (list : List (Segment L)) → hi ≡ lo +ℤ pos n → IsCut same f hi lo list → list ≡ segments same f lo n
@@ -81,32 +81,37 @@ module _ (f : ℤ → Bool) (hi : ℤ) where
     canonical_trues lo [] c = tt
     canonical_trues lo (s ∷ rest) c = at (canonical_later (s.last +ℤ pos 1) rest c.6) (canonical_trues (s.last +ℤ pos 1) rest c.6) s.label refl
       where
-      at : (((s.last +ℤ pos 1) ≤ℤ hi → f (s.last +ℤ pos 1) ≡ false) → IsCanonical ((s.last +ℤ pos 1) +ℤ pos 1) hi (true_ranges rest)) → IsCanonical (s.last +ℤ pos 1) hi (true_ranges rest) → (b : Bool) → s.label ≡ b → IsCanonical lo hi (if b then (s.first, s.last) ∷ true_ranges rest else true_ranges rest)
-      at later ih true e =
-          let two : (s.last +ℤ pos 1) +ℤ pos 1 ≡ s.last +ℤ pos 2 = omega (arith, ints) in
-          let here : f s.last ≡ true = label_holds lo s rest c s.last c.1 (omega (arith, ints)) ∙ e in
-          (omega (arith, ints), omega (arith, ints), c.2,
-              rw two at (later (λ k. same_bool_false (f s.last) (f (s.last +ℤ pos 1)) (c.5 (omega (arith, ints))) here)))
-      at later ih false e = from_lower (s.last +ℤ pos 1) lo hi (true_ranges rest) (omega (arith, ints)) ih
+        at : (((s.last +ℤ pos 1) ≤ℤ hi → f (s.last +ℤ pos 1) ≡ false) → IsCanonical ((s.last +ℤ pos 1) +ℤ pos 1) hi (true_ranges rest)) → IsCanonical (s.last +ℤ pos 1) hi (true_ranges rest) → (b : Bool) → s.label ≡ b → IsCanonical lo hi (if b then (s.first, s.last) ∷ true_ranges rest else true_ranges rest)
+        at later ih true e =
+            let two : (s.last +ℤ pos 1) +ℤ pos 1 ≡ s.last +ℤ pos 2 = omega (arith, ints) in
+            let here : f s.last ≡ true = label_holds lo s rest c s.last c.1 (omega (arith, ints)) ∙ e in (
+              omega (arith, ints),
+              omega (arith, ints),
+              c.2,
+              rw two at (later (λ k. same_bool_false (f s.last) (f (s.last +ℤ pos 1)) (c.5 (omega (arith, ints))) here)),
+            )
+        at later ih false e = from_lower (s.last +ℤ pos 1) lo hi (true_ranges rest) (omega (arith, ints)) ih
+
     canonical_later : (lo : ℤ) (list : List (Segment Bool)) → IsCut same_bool f hi lo list → (lo ≤ℤ hi → f lo ≡ false) → IsCanonical (lo +ℤ pos 1) hi (true_ranges list)
     canonical_later lo [] c h = tt
     canonical_later lo (s ∷ rest) c h = at (canonical_trues (s.last +ℤ pos 1) rest c.6) s.label refl
       where
-      at : IsCanonical (s.last +ℤ pos 1) hi (true_ranges rest) → (b : Bool) → s.label ≡ b → IsCanonical (lo +ℤ pos 1) hi (if b then (s.first, s.last) ∷ true_ranges rest else true_ranges rest)
-      at ih true e = let z : f lo ≡ false = h (omega (arith, ints)) in let l : s.label ≡ f lo = c.3 in absurd (cc)
-      at ih false e = from_lower (s.last +ℤ pos 1) (lo +ℤ pos 1) hi (true_ranges rest) (omega (arith, ints)) ih
+        at : IsCanonical (s.last +ℤ pos 1) hi (true_ranges rest) → (b : Bool) → s.label ≡ b → IsCanonical (lo +ℤ pos 1) hi (if b then (s.first, s.last) ∷ true_ranges rest else true_ranges rest)
+        at ih true e = let z : f lo ≡ false = h (omega (arith, ints)) in let l : s.label ≡ f lo = c.3 in absurd (cc)
+        at ih false e = from_lower (s.last +ℤ pos 1) (lo +ℤ pos 1) hi (true_ranges rest) (omega (arith, ints)) ih
 
   -- and hold just the numbers at which f is true
   true_ranges_hold : (lo : ℤ) (list : List (Segment Bool)) → IsCut same_bool f hi lo list → (x : ℤ) → lo ≤ℤ x → x ≤ℤ hi → holds (true_ranges list) x ≡ f x
   true_ranges_hold lo [] c x p q = absurd (omega (arith, ints))
   true_ranges_hold lo (s ∷ rest) c x p q = by_lt_z s.last x (λ k. after (true_ranges_hold (s.last +ℤ pos 1) rest c.6 x (omega (arith, ints)) q) s.label refl k) (here s.label refl)
     where
-    after : holds (true_ranges rest) x ≡ f x → (b : Bool) → s.label ≡ b → s.last <ℤ x → holds (if b then (s.first, s.last) ∷ true_ranges rest else true_ranges rest) x ≡ f x
-    after ih true e k = rest_holds (s.first, s.last) (true_ranges rest) x k ∙ ih
-    after ih false e k = ih
-    here : (b : Bool) → s.label ≡ b → x ≤ℤ s.last → holds (if b then (s.first, s.last) ∷ true_ranges rest else true_ranges rest) x ≡ f x
-    here true e k = first_holds (s.first, s.last) (true_ranges rest) x (omega (arith, ints)) k ∙ sym (label_holds lo s rest c x p k ∙ e)
-    here false e k = below_start (s.last +ℤ pos 1) hi (true_ranges rest) x (canonical_trues (s.last +ℤ pos 1) rest c.6) (omega (arith, ints)) ∙ sym (label_holds lo s rest c x p k ∙ e)
+      after : holds (true_ranges rest) x ≡ f x → (b : Bool) → s.label ≡ b → s.last <ℤ x → holds (if b then (s.first, s.last) ∷ true_ranges rest else true_ranges rest) x ≡ f x
+      after ih true e k = rest_holds (s.first, s.last) (true_ranges rest) x k ∙ ih
+      after ih false e k = ih
+
+      here : (b : Bool) → s.label ≡ b → x ≤ℤ s.last → holds (if b then (s.first, s.last) ∷ true_ranges rest else true_ranges rest) x ≡ f x
+      here true e k = first_holds (s.first, s.last) (true_ranges rest) x (omega (arith, ints)) k ∙ sym (label_holds lo s rest c x p k ∙ e)
+      here false e k = below_start (s.last +ℤ pos 1) hi (true_ranges rest) x (canonical_trues (s.last +ℤ pos 1) rest c.6) (omega (arith, ints)) ∙ sym (label_holds lo s rest c x p k ∙ e)
 
   pub runs_canonical : (lo : ℤ) (n : ℕ) → hi ≡ lo +ℤ pos n → IsCanonical lo hi (runs f lo n)
   unfolding runs

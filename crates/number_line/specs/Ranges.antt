@@ -1,5 +1,5 @@
 -- Ranges of whole numbers, each by its first and its last number, and lists of them.
-use Rattle.std.specs.Prelude.{ℤ, pos, ◌+ℤ◌, ◌≤ℤ◌, Bool, true, false, ◌&&◌, ◌||◌, int_le, List, [], ◌∷◌}
+use Rattle.std.specs.Prelude.{ℤ, pos, ◌+ℤ◌, ◌≤ℤ◌, Bool, false, ◌&&◌, ◌||◌, int_le, List, [], ◌∷◌}
 
 -- x lies from the first number of the range to its last
 abbrev pub lies_in : ℤ × ℤ → ℤ → Bool
