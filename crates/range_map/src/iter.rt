@@ -1,6 +1,7 @@
 //! The ranges of a set, one after another.
-ghost use Rattle.std.specs.Prelude.{◌≡◌, ⊤};
-ghost use Rattle.std.specs.Iterator.{YieldsFirstBy, item_count};
+ghost use Rattle.std.specs.Prelude.{◌≡◌, ⊤, length, Some, IfSome};
+ghost use Rattle.std.specs.Iterator.{YieldsFirstBy, item_count, at_most, UpTo};
+ghost use Rattle.std.specs.Iterator.SizeHint.{IsWithinCount};
 ghost use Rattle.range_map.specs.Range.{in_numbers};
 
 use crate::range::Range;
@@ -50,7 +51,11 @@ impl<'a, T: Element> Iterator for RangeIter<'a, T> {
         Some(*first)
     }
 
-    fn size_hint(&self) -> (usize, Option<usize>) {
+    fn size_hint(&self) -> (usize, Option<usize>)
+        ensures lower { IsWithinCount result.0 (at_most (length self.now)) }
+        ensures upper { IfSome result.1 (UpTo (at_most (length self.now))) }
+        ensures exact { result ≡ (length self.now, Some (length self.now)) }
+    {
         (self.ranges.len(), Some(self.ranges.len()))
     }
 }

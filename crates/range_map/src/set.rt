@@ -14,7 +14,8 @@ use std::marker::Model;
 /// A set of values, kept as the fewest ranges that hold them, ascending: each begins two or more past the end of
 /// the one before it.
 ///
-/// Contracts see a set as the list of its ranges in numbers. Two sets with the same members are equal.
+/// Contracts see a set as the list of its ranges in numbers. Two sets with the same members are equal. Where memory
+/// is short, a call that makes a set answers `NoMemory`, and the sets that it read stay as they were.
 #[derive(Debug, Drop)]
 pub struct RangeSet<T: Element> {
     ranges: Vec<Range<T>>,
