@@ -17,7 +17,7 @@ use std::marker::Model;
 /// Contracts see a set as the list of its ranges in numbers. Two sets with the same members are equal.
 #[derive(Debug, Drop)]
 pub struct RangeSet<T: Element> {
-    ranges: Vec<Range<T>>,
+    pub(crate) ranges: Vec<Range<T>>,
 }
 
 impl<T: Element> Model for RangeSet<T> {
