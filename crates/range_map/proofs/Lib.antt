@@ -4,3 +4,4 @@ pub mod GapLemmas
 pub mod CommonLemmas
 pub mod SearchLemmas
 pub mod EqualityLemmas
+pub mod JoinLemmas

@@ -30,3 +30,13 @@ abbrev pub IsCommonPushed : List (ℤ × ℤ) → ℤ × ℤ → ℤ × ℤ → 
 IsCommonPushed old a b new =
     ((new ≡ old) × ((x : ℤ) → (lies_in a x && lies_in b x) ≡ false))
     ⊎ ((r : ℤ × ℤ) × (new ≡ old ++ r ∷ []) × (r.0 ≡ int_max a.0 b.0) × (r.1 ≡ int_min a.1 b.1) × (r.0 ≤ℤ r.1))
+
+-- no range begins before n, and none before the one that stands before it
+abbrev pub BeginInOrderFrom : ℤ → List (ℤ × ℤ) → Type 0
+BeginInOrderFrom n [] = Unit {0}
+BeginInOrderFrom n (r ∷ rest) = (n ≤ℤ r.0) × BeginInOrderFrom r.0 rest
+
+-- no range begins before the one that stands before it
+abbrev pub BeginInOrder : List (ℤ × ℤ) → Type 0
+BeginInOrder [] = Unit {0}
+BeginInOrder (r ∷ rest) = BeginInOrderFrom r.0 rest

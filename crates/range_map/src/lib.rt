@@ -3,6 +3,9 @@
 
 #[cfg(test)]
 mod callers;
+mod from_iter;
+#[cfg(test)]
+mod from_iter_tests;
 mod iter;
 pub mod laws;
 mod merging;

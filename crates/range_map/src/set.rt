@@ -18,7 +18,7 @@ use std::marker::Model;
 /// is short, a call that makes a set answers `NoMemory`, and the sets that it read stay as they were.
 #[derive(Debug, Drop)]
 pub struct RangeSet<T: Element> {
-    ranges: Vec<Range<T>>,
+    pub(crate) ranges: Vec<Range<T>>,
 }
 
 impl<T: Element> Model for RangeSet<T> {

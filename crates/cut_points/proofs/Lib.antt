@@ -1,0 +1,6 @@
+pub mod CutLemmas
+pub mod RunLemmas
+pub mod SymmetricLemmas
+pub mod ValueLemmas
+pub mod PlaceLemmas
+pub mod EitherLemmas

@@ -1,0 +1,10 @@
+use Rattle.std.proofs.Common.{◌≡◌, ◌++◌}
+use Rattle.std.specs.List.{AllByRecursion}
+use Rattle.cut_points.specs.Cuts.{numbers_of, cuts}
+use Rattle.cut_points.proofs.convert.cuts.Given as goal
+
+abbrev pub invariant-loop-range : goal.invariant-loop-range
+invariant-loop-range g l = record {
+  values : AllByRecursion g.T.Element.numbers.IsValue l.kept.items;
+  same : numbers_of g.T.Element.numbers l.kept.items ++ cuts g.T.Element.numbers.greatest l.range-iterator ≡ cuts g.T.Element.numbers.greatest l.fn.set;
+}

@@ -1,0 +1,38 @@
+use Rattle.std.proofs.lemmas.Grind.{common_steps}
+use Rattle.std.proofs.Common.{rules, [], Result, Ok, Err, ◌≡◌, ℤ, ◌≤ℤ◌, IfOk, ◌++◌, ◌∷◌, List, refl, sym, ap, ◌∙◌, ◌+◌, drop, arith, map, map-id, Option, Some, None, option_map, is_none, cond}
+use Rattle.std.specs.Prelude.{pos, ◌+ℤ◌}
+use Rattle.std.proofs.lemmas.Int.{ints}
+use Rattle.std.proofs.lemmas.Iterator.{items_from_drains}
+use Rattle.std.proofs.lemmas.Iterator.Adapters.{YieldsList-from_vec}
+use Rattle.number_line.specs.Ranges.{holds, IsCanonical}
+use Rattle.number_line.proofs.RangeLemmas.{same_list}
+use Rattle.range_map.specs.Set.{all_in_numbers}
+use Rattle.cut_points.specs.Cuts.{numbers_of, IsAscending, from_cuts, with_begun}
+use Rattle.cut_points.proofs.CutLemmas.{from_cuts_canonical, ascending_from}
+use Rattle.cut_points.proofs.convert.set_of.Goals as goal
+
+begun_ascends : {T : Type 0} (number : T → ℤ) (lo hi : ℤ) (begun now : Option T) (cut : T) (rest : List ℤ) → now ≡ cond (is_none begun) (Some cut) None
+    → IsAscending lo hi (with_begun (option_map number begun) (number cut ∷ rest)) → IsAscending lo hi (with_begun (option_map number now) rest)
+begun_ascends number lo hi None now cut rest e a = rw e a
+begun_ascends number lo hi (Some s) now cut rest e a = rw e (ascending_from (number cut +ℤ pos 1) lo hi rest (omega (arith, ints)) a.2.2)
+
+set_of_cuts : (lo hi : ℤ) (ranges : List (ℤ × ℤ)) (cs : List ℤ) (s : List (ℤ × ℤ)) → IsAscending lo hi cs → ranges ≡ from_cuts hi cs
+    → IsCanonical lo hi s → ((x : ℤ) → holds s x ≡ holds ranges x) → s ≡ from_cuts hi cs
+set_of_cuts lo hi ranges cs s a e c h = same_list lo hi s (from_cuts hi cs) c (from_cuts_canonical lo hi cs a) (λ x p q. h x ∙ rw e)
+
+both_ok : {A E : Type 0} (P Q R : A → Type 0) (r : Result A E) → ((a : A) → P a → Q a → R a) → IfOk r P → IfOk r Q → IfOk r R
+both_ok P Q R (Ok a) f p q = f a p q
+both_ok P Q R (Err e) f p q = tt
+
+pub loop-cut-preserved : goal.loop-cut-preserved
+loop-cut-preserved g c =
+    let numbers = g.T.Element.numbers in
+    let i = c.loop-cut.cut-index in
+    let rest = numbers_of numbers (drop (i + 1) c.args.list.now) in
+    let k = c.in_ok-begun.ensures in
+    let e : drop i c.args.list.now ≡ c.cut-item.result ∷ drop (i + 1) c.args.list.now = grind (arith, common_steps) in
+    let same = rw e at c.loop-cut.invariant.same in
+    let ascending = rw e at c.loop-cut.invariant.ascending in
+    record {
+      same = k.ranges rest ∙ same;
+      ascending = begun_ascends numbers.number numbers.least numbers.greatest c.loop-cut.begun c.in_ok-begun.begun c.cut-item.result rest k.begun ascending }

@@ -1,0 +1,44 @@
+-- The cuts of a list of ranges: the numbers at which membership changes.
+use Rattle.std.specs.Prelude.{ℕ, ◌%◌, ◌==◌, ℤ, pos, ◌+ℤ◌, ◌-ℤ◌, ◌≤ℤ◌, Bool, true, false, not, int_le, int_lt, if◌then◌else◌, List, [], ◌∷◌, map, Option, Some, None}
+use Rattle.std.specs.List.{count_by}
+use Rattle.std.specs.Ordering.{int_eq}
+use Rattle.element_core.specs.Numbering.{Numbering}
+
+-- the numbers of the items
+abbrev pub numbers_of : {T : Type 0} → Numbering T → List T → List ℤ
+numbers_of numbers items = map numbers.number items
+
+-- the numbers lie from lo to hi, and each is less than the next
+abbrev pub IsAscending : ℤ → ℤ → List ℤ → Type 0
+IsAscending lo hi [] = Unit {0}
+IsAscending lo hi (c ∷ rest) = (lo ≤ℤ c) × (c ≤ℤ hi) × IsAscending (c +ℤ pos 1) hi rest
+
+-- each start, and each end's successor where the end is below the greatest number
+abbrev pub cuts : ℤ → List (ℤ × ℤ) → List ℤ
+cuts greatest [] = []
+cuts greatest (r ∷ rest) =
+    if int_lt r.1 greatest then r.0 ∷ (r.1 +ℤ pos 1) ∷ cuts greatest rest else r.0 ∷ cuts greatest rest
+
+-- the ranges with these cuts: each cut begins a range or ends one, and the last range goes to the greatest number where no cut ends it
+abbrev pub from_cuts : ℤ → List ℤ → List (ℤ × ℤ)
+from_cuts greatest [] = []
+from_cuts greatest (c ∷ []) = (c, greatest) ∷ []
+from_cuts greatest (c ∷ d ∷ rest) = (c, d -ℤ pos 1) ∷ from_cuts greatest rest
+
+-- whether the count of cuts at most x is odd
+abbrev pub parity : List ℤ → ℤ → Bool
+parity list x = count_by (λ c. int_le c x) list % 2 == 1
+
+-- true where just one of the two is
+abbrev pub xor : Bool → Bool → Bool
+xor true b = not b
+xor false b = b
+
+-- whether f changes at x: from the number before, or from false before the first number
+abbrev pub changes : ℤ → (ℤ → Bool) → ℤ → Bool
+changes lo f x = if int_eq x lo then f x else xor (f x) (f (x -ℤ pos 1))
+
+-- the start of a range whose end is still to come, before the cuts that follow
+abbrev pub with_begun : Option ℤ → List ℤ → List ℤ
+with_begun None rest = rest
+with_begun (Some start) rest = start ∷ rest

@@ -1,0 +1,148 @@
+//! From a set to its cuts and back, and membership by cuts.
+ghost use Rattle.std.specs.Prelude.{◌≡◌, ℤ, ◌<ℤ◌, IfOk, OnOk, IfSome, List, [], ◌∷◌, ◌++◌, option_map, is_none, cond, Some, None};
+ghost use Rattle.std.specs.List.{AllByRecursion};
+ghost use Rattle.number_line.specs.Ranges.{IsCanonical};
+ghost use Rattle.range_map.specs.Range.{in_numbers};
+ghost use Rattle.range_map.specs.Set.{all_in_numbers};
+ghost use Rattle.cut_points.specs.Cuts.{numbers_of, IsAscending, cuts as list_cuts, from_cuts, parity, with_begun};
+
+use element_core::{Element, NoMemory, is_below};
+use range_map::{Range, RangeSet};
+use sorted_vector_set::SortedVectorSet;
+use std::alloc::Global;
+
+/// Puts `cut`, which is above all others, behind those kept.
+fn push_cut<T: Element>(kept: &mut SortedVectorSet<T>, cut: T) -> Result<(), NoMemory>
+    requires values { AllByRecursion T.numbers.IsValue kept.old.items }
+    requires ascending { IsAscending T.numbers.least T.numbers.greatest (numbers_of T.numbers kept.old.items ++ T.numbers.number cut ∷ []) }
+    ensures values { OnOk result (AllByRecursion T.numbers.IsValue kept.new.items) }
+    ensures numbers { OnOk result (numbers_of T.numbers kept.new.items ≡ numbers_of T.numbers kept.old.items ++ T.numbers.number cut ∷ []) }
+{
+    cut.in_type();
+    match kept.insert(cut) {
+        Ok(_) => Ok(()),
+        Err(_) => Err(NoMemory),
+    }
+}
+
+/// Puts the cuts of `range`, which are above all others, behind those kept.
+fn push_cuts<T: Element>(
+    kept: &mut SortedVectorSet<T>,
+    range: Range<T>,
+) -> Result<(), NoMemory>
+    requires values { AllByRecursion T.numbers.IsValue kept.old.items }
+    requires ascending { IsAscending T.numbers.least T.numbers.greatest (numbers_of T.numbers kept.old.items ++ list_cuts T.numbers.greatest (in_numbers T.numbers range ∷ [])) }
+    ensures values { OnOk result (AllByRecursion T.numbers.IsValue kept.new.items) }
+    ensures numbers { OnOk result (numbers_of T.numbers kept.new.items ≡ numbers_of T.numbers kept.old.items ++ list_cuts T.numbers.greatest (in_numbers T.numbers range ∷ [])) }
+{
+    match range.end().successor() {
+        Some(after) => {
+            push_cut(kept, range.start())?;
+            push_cut(kept, after)
+        }
+        None => push_cut(kept, range.start()),
+    }
+}
+
+/// The cuts of `set`, ascending: the first value of each range, and the value behind the last one of each where the
+/// type has one. Takes O(n) time for n ranges, and memory for 2n cuts.
+pub fn cuts<T: Element>(
+    alloc: Global,
+    set: &RangeSet<T>,
+) -> Result<SortedVectorSet<T>, NoMemory>
+    ensures numbers { IfOk result (λ found. numbers_of T.numbers found.items ≡ list_cuts T.numbers.greatest set.now) }
+    ensures values { IfOk result (λ found. AllByRecursion T.numbers.IsValue found.items) }
+{
+    let mut kept = SortedVectorSet::with_capacity(alloc, set.num_ranges().saturating_mul(2))?;
+    for range in set.ranges() {
+        push_cuts(&mut kept, range)?;
+    }
+    Ok(kept)
+}
+
+/// Does nothing. Its contract tells of the items of a list that each is a value of its type.
+pub(crate) fn are_values<T: Element>(list: &[T])
+    ensures { AllByRecursion T.numbers.IsValue list.now }
+{
+    for value in list {
+        value.in_type();
+    }
+}
+
+/// Takes the next cut, which begins a range or ends the one that is begun. Answers the start of a begun range.
+fn take_cut<T: Element>(
+    ranges: &mut Vec<Range<T>>,
+    begun: Option<T>,
+    cut: T,
+) -> Result<Option<T>, NoMemory>
+    requires { IfSome begun (λ start. T.numbers.number start <ℤ T.numbers.number cut) }
+    ensures ranges {
+        IfOk result (λ now. (rest : List ℤ) → all_in_numbers T.numbers ranges.new.items ++ from_cuts T.numbers.greatest (with_begun (option_map T.numbers.number now) rest)
+            ≡ all_in_numbers T.numbers ranges.old.items ++ from_cuts T.numbers.greatest (with_begun (option_map T.numbers.number begun) (T.numbers.number cut ∷ rest)))
+    }
+    ensures begun { IfOk result (λ now. now ≡ cond (is_none begun) (Some cut) None) }
+{
+    let Some(start) = begun else {
+        return Ok(Some(cut));
+    };
+    start.in_type();
+    if let Some(end) = cut.predecessor() {
+        ranges.push(Range::new(start, end))?;
+        return Ok(None);
+    }
+    Ok(None)
+}
+
+/// Ends a begun range at the greatest value.
+fn end_at_greatest<T: Element>(
+    ranges: &mut Vec<Range<T>>,
+    begun: Option<T>,
+) -> Result<(), NoMemory>
+    ensures { OnOk result (all_in_numbers T.numbers ranges.new.items ≡ all_in_numbers T.numbers ranges.old.items ++ from_cuts T.numbers.greatest (with_begun (option_map T.numbers.number begun) [])) }
+{
+    let Some(start) = begun else {
+        return Ok(());
+    };
+    start.in_type();
+    ranges.push(Range::new(start, T::max_value()))?;
+    Ok(())
+}
+
+/// The set with these cuts.
+pub(crate) fn set_of<T: Element>(alloc: Global, list: &[T]) -> Result<RangeSet<T>, NoMemory>
+    requires { IsAscending T.numbers.least T.numbers.greatest (numbers_of T.numbers list.now) }
+    ensures { IfOk result (λ set. set ≡ from_cuts T.numbers.greatest (numbers_of T.numbers list.now)) }
+{
+    let mut ranges = Vec::with_capacity(alloc, (list.len() / 2).saturating_add(1))?;
+    let mut begun = None;
+    for cut in list {
+        begun = take_cut(&mut ranges, begun, *cut)?;
+    }
+    end_at_greatest(&mut ranges, begun)?;
+    RangeSet::try_from_iter(alloc, ranges)
+}
+
+/// The one set whose cuts are these values: each cut begins a range or ends one, in turn, and the last range goes to
+/// the greatest value of the type where no cut ends it. Takes O(n) time for n cuts, and memory.
+pub fn from_cuts<T: Element>(
+    alloc: Global,
+    cuts: &SortedVectorSet<T>,
+) -> Result<RangeSet<T>, NoMemory>
+    ensures canonical { IfOk result (IsCanonical T.numbers.least T.numbers.greatest) }
+    ensures cuts { IfOk result (λ set. list_cuts T.numbers.greatest set ≡ numbers_of T.numbers cuts.now.items) }
+{
+    let list = cuts.iter().as_slice();
+    are_values(list);
+    let set = set_of(alloc, list)?;
+    Ok(set)
+}
+
+/// Whether `x` is a member of the set with these cuts: whether the count of cuts at most `x` is odd. Finds the count
+/// by binary search, in O(log n) comparisons for n cuts, and takes no memory.
+pub fn contains_by_cuts<T: Element>(cuts: &SortedVectorSet<T>, x: T) -> bool
+    ensures { result ≡ parity (numbers_of T.numbers cuts.now.items) (T.numbers.number x) }
+{
+    let list = cuts.iter().as_slice();
+    are_values(list);
+    list.partition_point(|cut| !is_below(x, *cut)) % 2 == 1
+}
