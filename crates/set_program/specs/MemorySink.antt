@@ -19,9 +19,13 @@ pub record SinkState : Type 0 where
   -- how many writes and finishes failed
   pub faults : ℕ
 
+-- no room is left
+abbrev pub is_full : SinkState → Bool
+is_full sink = nat_le sink.room (length sink.written)
+
 -- the next write fails: its number is listed, or the room is full
 abbrev pub write_fails : SinkState → Bool
-write_fails sink = is_listed sink.failing (next sink.writes) || nat_le sink.room (length sink.written)
+write_fails sink = is_listed sink.failing (next sink.writes) || is_full sink
 
 -- how many bytes a write takes that doesn't fail, of a piece of this length
 abbrev pub write_count : SinkState → ℕ → ℕ

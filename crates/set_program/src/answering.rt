@@ -39,22 +39,27 @@ pub fn answer_text<K: Sink>(alloc: Global, text: &[u8], sink: &mut K) -> Status
     ensures done_finished { result ≡ Status.Done → K.finished sink.new ≡ true }
     ensures done_faults { result ≡ Status.Done → K.faults sink.new ≡ K.faults sink.old }
 
-    ensures fault_text { (fault : AlgebraError) → result ≡ Status.TextFault fault → first_fault text.now ≡ Some fault }
+    ensures fault_text { (fault : AlgebraError) → result ≡ Status.TextFault fault
+        → first_fault text.now ≡ Some fault }
     ensures fault_written { (fault : AlgebraError) → result ≡ Status.TextFault fault
         → Appends (K.written sink.old) (K.written sink.new) (fault_line fault) }
     ensures fault_is_told { result ≡ Status.TextFault AlgebraError.NoMemory → ⊥ }
-    ensures fault_finished { (fault : AlgebraError) → result ≡ Status.TextFault fault → K.finished sink.new ≡ true }
+    ensures fault_finished { (fault : AlgebraError) → result ≡ Status.TextFault fault
+        → K.finished sink.new ≡ true }
     ensures fault_faults { (fault : AlgebraError) → result ≡ Status.TextFault fault
         → K.faults sink.new ≡ K.faults sink.old }
 
-    ensures write_cause { result ≡ Status.WriteFault → Rose (K.faults sink.old) (K.faults sink.new) }
+    ensures write_cause { result ≡ Status.WriteFault
+        → Rose (K.faults sink.old) (K.faults sink.new) }
     ensures write_written { result ≡ Status.WriteFault
         → AppendsPrefix (K.written sink.old) (K.written sink.new) (text_of text.now) }
-    ensures write_unfinished { result ≡ Status.WriteFault → K.finished sink.new ≡ true → K.finished sink.old ≡ true }
+    ensures write_unfinished { result ≡ Status.WriteFault
+        → K.finished sink.new ≡ true → K.finished sink.old ≡ true }
 
     ensures memory_sink { result ≡ Status.NoMemory → sink.new ≡ sink.old }
 
-    ensures complete { NotRose (K.faults sink.old) (K.faults sink.new) → IsUnlessNoMemory result (status_of text.now) }
+    ensures complete { NotRose (K.faults sink.old) (K.faults sink.new)
+        → IsUnlessNoMemory result (status_of text.now) }
     ensures faults_never_fall { K.faults sink.old ≤ K.faults sink.new }
 {
     match evaluate_document(alloc, text) {

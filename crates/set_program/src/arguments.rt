@@ -37,7 +37,8 @@ impl Argument {
 
 /// The words behind the program's name, which is the first of the arguments.
 pub(crate) fn words_of(alloc: Global, args: Args) -> Result<Vec<Argument>, NoMemory>
-    ensures { IfOk result (λ words. words.items ≡ map string_bytes (drop 1 (into_iter_items args))) }
+    ensures { IfOk result (λ words.
+        words.items ≡ map string_bytes (drop 1 (into_iter_items args))) }
 {
     let words = args
         .skip(1)

@@ -36,8 +36,10 @@ pub fn run<S: Source, K: Sink>(
     ensures usage_sink { result ≡ Status.Usage → sink.new ≡ sink.old }
 
     // The whole answer.
-    ensures done_read { result ≡ Status.Done → ReadWhole MAX_TEXT (S.left source.old) (S.left source.new) }
-    ensures done_text { result ≡ Status.Done → IfSome (S.left source.old) (λ text. first_fault text ≡ None) }
+    ensures done_read { result ≡ Status.Done
+        → ReadWhole MAX_TEXT (S.left source.old) (S.left source.new) }
+    ensures done_text { result ≡ Status.Done
+        → IfSome (S.left source.old) (λ text. first_fault text ≡ None) }
     ensures done_written { result ≡ Status.Done → IfSome (S.left source.old) (λ text.
         Appends (K.written sink.old) (K.written sink.new) (answer text)) }
     ensures done_source_faults { result ≡ Status.Done → S.faults source.new ≡ S.faults source.old }
@@ -45,46 +47,61 @@ pub fn run<S: Source, K: Sink>(
     ensures done_finished { result ≡ Status.Done → K.finished sink.new ≡ true }
 
     // The first fault.
-    ensures fault_read { (fault : AlgebraError) → result ≡ Status.TextFault fault → ReadWhole MAX_TEXT (S.left source.old) (S.left source.new) }
+    ensures fault_read { (fault : AlgebraError) → result ≡ Status.TextFault fault
+        → ReadWhole MAX_TEXT (S.left source.old) (S.left source.new) }
     ensures fault_text { (fault : AlgebraError) → result ≡ Status.TextFault fault
         → IfSome (S.left source.old) (λ text. first_fault text ≡ Some fault) }
     ensures fault_written { (fault : AlgebraError) → result ≡ Status.TextFault fault
         → Appends (K.written sink.old) (K.written sink.new) (fault_line fault) }
     ensures fault_is_told { result ≡ Status.TextFault AlgebraError.NoMemory → ⊥ }
-    ensures fault_source_faults { (fault : AlgebraError) → result ≡ Status.TextFault fault → S.faults source.new ≡ S.faults source.old }
-    ensures fault_sink_faults { (fault : AlgebraError) → result ≡ Status.TextFault fault → K.faults sink.new ≡ K.faults sink.old }
-    ensures fault_finished { (fault : AlgebraError) → result ≡ Status.TextFault fault → K.finished sink.new ≡ true }
+    ensures fault_source_faults { (fault : AlgebraError) → result ≡ Status.TextFault fault
+        → S.faults source.new ≡ S.faults source.old }
+    ensures fault_sink_faults { (fault : AlgebraError) → result ≡ Status.TextFault fault
+        → K.faults sink.new ≡ K.faults sink.old }
+    ensures fault_finished { (fault : AlgebraError) → result ≡ Status.TextFault fault
+        → K.finished sink.new ≡ true }
 
     // A read failed.
-    ensures read_cause { result ≡ Status.ReadFault → Rose (S.faults source.old) (S.faults source.new) }
+    ensures read_cause { result ≡ Status.ReadFault
+        → Rose (S.faults source.old) (S.faults source.new) }
     ensures read_words { result ≡ Status.ReadFault → words.now ≡ [] }
     ensures read_sink { result ≡ Status.ReadFault → sink.new ≡ sink.old }
 
     // The text is too long.
-    ensures long_cause { result ≡ Status.TooLong → RoseBy MAX_READ (S.taken source.old) (S.taken source.new) }
-    ensures long_text { result ≡ Status.TooLong → IfSome (S.left source.old) (λ text. MAX_TEXT < length text) }
+    ensures long_cause { result ≡ Status.TooLong
+        → RoseBy MAX_READ (S.taken source.old) (S.taken source.new) }
+    ensures long_text { result ≡ Status.TooLong
+        → IfSome (S.left source.old) (λ text. MAX_TEXT < length text) }
     ensures long_words { result ≡ Status.TooLong → words.now ≡ [] }
-    ensures long_source_faults { result ≡ Status.TooLong → S.faults source.new ≡ S.faults source.old }
+    ensures long_source_faults { result ≡ Status.TooLong
+        → S.faults source.new ≡ S.faults source.old }
     ensures long_sink { result ≡ Status.TooLong → sink.new ≡ sink.old }
 
     // A write failed.
-    ensures write_cause { result ≡ Status.WriteFault → Rose (K.faults sink.old) (K.faults sink.new) }
-    ensures write_source_faults { result ≡ Status.WriteFault → S.faults source.new ≡ S.faults source.old }
-    ensures write_read { result ≡ Status.WriteFault → ReadWhole MAX_TEXT (S.left source.old) (S.left source.new) }
+    ensures write_cause { result ≡ Status.WriteFault
+        → Rose (K.faults sink.old) (K.faults sink.new) }
+    ensures write_source_faults { result ≡ Status.WriteFault
+        → S.faults source.new ≡ S.faults source.old }
+    ensures write_read { result ≡ Status.WriteFault
+        → ReadWhole MAX_TEXT (S.left source.old) (S.left source.new) }
     ensures write_written { result ≡ Status.WriteFault → IfSome (S.left source.old) (λ text.
         AppendsPrefix (K.written sink.old) (K.written sink.new) (text_of text)) }
-    ensures write_unfinished { result ≡ Status.WriteFault → K.finished sink.new ≡ true → K.finished sink.old ≡ true }
+    ensures write_unfinished { result ≡ Status.WriteFault
+        → K.finished sink.new ≡ true → K.finished sink.old ≡ true }
 
     // Memory is short.
-    ensures memory_source_faults { result ≡ Status.NoMemory → S.faults source.new ≡ S.faults source.old }
+    ensures memory_source_faults { result ≡ Status.NoMemory
+        → S.faults source.new ≡ S.faults source.old }
     ensures memory_sink { result ≡ Status.NoMemory → sink.new ≡ sink.old }
 
     // Where no call fails, the text decides.
     ensures complete { words.now ≡ [] → IfSome (S.left source.old) (λ text. length text ≤ MAX_TEXT
-        → NotRose (S.faults source.old) (S.faults source.new) → NotRose (K.faults sink.old) (K.faults sink.new)
+        → NotRose (S.faults source.old) (S.faults source.new)
+        → NotRose (K.faults sink.old) (K.faults sink.new)
         → IsUnlessNoMemory result (status_of text)) }
     ensures complete_long { words.now ≡ [] → IfSome (S.left source.old) (λ text. MAX_TEXT < length text
-        → NotRose (S.faults source.old) (S.faults source.new) → IsUnlessNoMemory result Status.TooLong) }
+        → NotRose (S.faults source.old) (S.faults source.new)
+        → IsUnlessNoMemory result Status.TooLong) }
 
     // Counters.
     ensures taken { S.taken source.new ≤ S.taken source.old + MAX_READ }

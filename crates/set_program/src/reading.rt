@@ -36,11 +36,15 @@ pub fn zeroed(alloc: Global, length: usize) -> Result<Vec<u8>, NoMemory>
 pub fn read_text<S: Source>(source: &mut S, buffer: &mut [u8]) -> Reading
     requires { length buffer.old ≡ MAX_READ }
     ensures whole_length { IfWhole result (λ n. n ≤ MAX_TEXT) }
-    ensures whole_bytes { IfWhole result (λ n. IfSome (S.left source.old) (λ text. text ≡ take n buffer.new)) }
-    ensures whole_end { IfWhole result (λ _. IfSome (S.left source.old) (λ _. S.left source.new ≡ Some [])) }
+    ensures whole_bytes { IfWhole result (λ n.
+        IfSome (S.left source.old) (λ text. text ≡ take n buffer.new)) }
+    ensures whole_end { IfWhole result (λ _.
+        IfSome (S.left source.old) (λ _. S.left source.new ≡ Some [])) }
     ensures whole_faults { IfWhole result (λ _. S.faults source.new ≡ S.faults source.old) }
-    ensures long_bytes { IsPastLimit result → IfSome (S.left source.old) (λ text. MAX_TEXT < length text) }
-    ensures long_taken { IsPastLimit result → RoseBy MAX_READ (S.taken source.old) (S.taken source.new) }
+    ensures long_bytes { IsPastLimit result
+        → IfSome (S.left source.old) (λ text. MAX_TEXT < length text) }
+    ensures long_taken { IsPastLimit result
+        → RoseBy MAX_READ (S.taken source.old) (S.taken source.new) }
     ensures long_faults { IsPastLimit result → S.faults source.new ≡ S.faults source.old }
     ensures failed { IsFailed result → Rose (S.faults source.old) (S.faults source.new) }
     ensures taken { S.taken source.new ≤ S.taken source.old + MAX_READ }
