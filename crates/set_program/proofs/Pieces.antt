@@ -34,6 +34,6 @@ pub one_more_written : (a b c : Option (List ℕ)) (all : List ℕ) (from n : �
     → Appends a c (take (from + n) all)
 one_more_written a b c all from n before piece =
     let left : take n (take (length all - from) (drop from all)) ≡ take n (drop from all) =
-      ap (take n) (take_rest all from) in
+    ap (take n) (take_rest all from) in
     let joined = ap (λ rest. take from all ++ rest) left ∙ sym (take-add from n all) in
     subst (Appends a c) joined (Appends-trans a b c _ _ before piece)

@@ -3,7 +3,7 @@ use Rattle.std.specs.Prelude.{◌≡◌, ℕ, List, [], ◌∷◌, ⊤, Option, 
 use Rattle.set_document.specs.Faults.{first_fault}
 use Rattle.set_document.specs.declared.fault.AlgebraError.{AlgebraError}
 use Rattle.set_program.specs.declared.status.Status.{Status}
-use Rattle.set_program.specs.declared.status.Status.TheVariants.{Done, TextFault, NoMemory, ReadFault, WriteFault, TooLong, Usage}
+use Rattle.set_program.specs.declared.status.Status.TheVariants.{Done, TextFault, NoMemory, ReadFault, TooLong, Usage}
 
 -- the words are of no form that the program has
 abbrev pub AreUnusable : List (List ℕ) → Type 0

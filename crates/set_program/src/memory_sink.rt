@@ -39,7 +39,7 @@ impl Model for MemorySink {
     } };
 
     ghost invariant = { λ s.
-      (length s.bytes.items ≤ s.room) × (s.room ≤ vec_capacity s.bytes) × (1 ≤ s.piece) };
+        (length s.bytes.items ≤ s.room) × (s.room ≤ vec_capacity s.bytes) × (1 ≤ s.piece) };
 }
 
 impl MemorySink {
