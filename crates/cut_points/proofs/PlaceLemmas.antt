@@ -63,6 +63,14 @@ cuts_cons hi r rest = at (int_lt r.1 hi)
   at true = refl
   at false = refl
 
+-- the first of them alone
+pub first_ascends : (lo hi : ℤ) (done : List ℤ) (r : ℤ × ℤ) → IsAscending lo hi (done ++ cuts hi (r ∷ [])) → IsAscending lo hi (done ++ r.0 ∷ [])
+first_ascends lo hi done r = at (int_lt r.1 hi)
+  where
+  at : (b : Bool) → IsAscending lo hi (done ++ (if b then r.0 ∷ (r.1 +ℤ pos 1) ∷ [] else r.0 ∷ [])) → IsAscending lo hi (done ++ r.0 ∷ [])
+  at true a = ascending_front lo hi (done ++ r.0 ∷ []) ((r.1 +ℤ pos 1) ∷ []) (rw (append_assoc done (r.0 ∷ []) ((r.1 +ℤ pos 1) ∷ [])) a)
+  at false a = a
+
 -- the cuts so far, those of the next range, and those of the ranges behind it
 module _ (hi : ℤ) (done : List ℤ) (r : ℤ × ℤ) (rest set : List (ℤ × ℤ)) (same : done ++ cuts hi (r ∷ rest) ≡ cuts hi set) where
   pub next_same : (done ++ cuts hi (r ∷ [])) ++ cuts hi rest ≡ cuts hi set

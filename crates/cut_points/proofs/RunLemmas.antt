@@ -93,4 +93,4 @@ has_within lo hi (c ∷ cs) x a e = by_lt_z x c
     (λ k. by_lt_z c x (λ m. later (has_within (c +ℤ pos 1) hi cs x a.2) (eq_less c x m)) (λ m. (omega (arith, ints), omega (arith, ints))))
   where
   later : (has int_cmp cs x ≡ true → ((c +ℤ pos 1) ≤ℤ x) × (x ≤ℤ hi)) → int_eq c x ≡ false → (lo ≤ℤ x) × (x ≤ℤ hi)
-  later ih q = let d = ih (sym (rw q at (has_cons c cs x)) ∙ e) in (omega (arith, ints), d.1)
+  later ih q = let d = ih (rw q at e) in (omega (arith, ints), d.1)

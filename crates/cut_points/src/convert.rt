@@ -1,5 +1,5 @@
 //! From a set to its cuts and back, and membership by cuts.
-ghost use Rattle.std.specs.Prelude.{◌≡◌, ℤ, ◌<ℤ◌, IfOk, OnOk, IfSome, List, [], ◌∷◌, ◌++◌, option_map, is_none, cond, Some, None};
+ghost use Rattle.std.specs.Prelude.{◌≡◌, ℤ, ◌<ℤ◌, int_le, IfOk, OnOk, IfSome, List, [], ◌∷◌, ◌++◌, option_map, is_none, cond, Some, None};
 ghost use Rattle.std.specs.List.{AllByRecursion};
 ghost use Rattle.number_line.specs.Ranges.{IsCanonical};
 ghost use Rattle.range_map.specs.Range.{in_numbers};
@@ -119,7 +119,8 @@ pub(crate) fn set_of<T: Element>(alloc: Global, list: &[T]) -> Result<RangeSet<T
         begun = take_cut(&mut ranges, begun, *cut)?;
     }
     end_at_greatest(&mut ranges, begun)?;
-    RangeSet::try_from_iter(alloc, ranges)
+    let set = RangeSet::try_from_iter(alloc, ranges)?;
+    Ok(set)
 }
 
 /// The one set whose cuts are these values: each cut begins a range or ends one, in turn, and the last range goes to
@@ -137,6 +138,12 @@ pub fn from_cuts<T: Element>(
     Ok(set)
 }
 
+fn is_at_most<T: Element>(cut: T, x: T) -> bool
+    ensures { result ≡ int_le (T.numbers.number cut) (T.numbers.number x) }
+{
+    !is_below(x, cut)
+}
+
 /// Whether `x` is a member of the set with these cuts: whether the count of cuts at most `x` is odd. Finds the count
 /// by binary search, in O(log n) comparisons for n cuts, and takes no memory.
 pub fn contains_by_cuts<T: Element>(cuts: &SortedVectorSet<T>, x: T) -> bool
@@ -144,5 +151,5 @@ pub fn contains_by_cuts<T: Element>(cuts: &SortedVectorSet<T>, x: T) -> bool
 {
     let list = cuts.iter().as_slice();
     are_values(list);
-    list.partition_point(|cut| !is_below(x, *cut)) % 2 == 1
+    list.partition_point(|cut| is_at_most(*cut, x)) % 2 == 1
 }

@@ -1,4 +1,6 @@
-use Rattle.std.proofs.Common.{◌≡◌, ◌∙◌}
+use Rattle.std.proofs.Common.{◌≡◌, ap, ◌∙◌}
+use Rattle.cut_points.specs.Cuts.{numbers_of, cuts}
+use Rattle.cut_points.proofs.CutLemmas.{cuts_again}
 use Rattle.cut_points.proofs.ValueLemmas.{sorted_ascends}
 use Rattle.cut_points.proofs.convert.from_cuts.Goals as goal
 
@@ -6,3 +8,10 @@ pub set_of-requires : goal.set_of-requires
 set_of-requires g c =
     let items : c.as_slice-list.result.now ≡ c.args.cuts.now.items = c.as_slice-list.ensures.value ∙ c.iter.ensures.rest in
     sorted_ascends g.T.Ord.cmp g.T.Element.numbers g.met.T.Element.numbered c.as_slice-list.result.now c.are_values.ensures (rw items c.iter.ensures.ascending)
+
+pub returns-clause-cuts : goal.returns-clause-cuts
+returns-clause-cuts g c =
+    let n = g.T.Element.numbers in
+    let items : c.as_slice-list.result.now ≡ c.args.cuts.now.items = c.as_slice-list.ensures.value ∙ c.iter.ensures.rest in
+    let ascends = sorted_ascends g.T.Ord.cmp n g.met.T.Element.numbered c.as_slice-list.result.now c.are_values.ensures (rw items c.iter.ensures.ascending) in
+    ap (cuts n.greatest) c.in_ok-set.ensures ∙ (cuts_again n.least n.greatest (numbers_of n c.as_slice-list.result.now) ascends ∙ ap (numbers_of n) items)

@@ -20,10 +20,6 @@ set_of_cuts : (lo hi : ℤ) (ranges : List (ℤ × ℤ)) (cs : List ℤ) (s : Li
     → IsCanonical lo hi s → ((x : ℤ) → holds s x ≡ holds ranges x) → s ≡ from_cuts hi cs
 set_of_cuts lo hi ranges cs s a e c h = same_list lo hi s (from_cuts hi cs) c (from_cuts_canonical lo hi cs a) (λ x p q. h x ∙ rw e)
 
-both_ok : {A E : Type 0} (P Q R : A → Type 0) (r : Result A E) → ((a : A) → P a → Q a → R a) → IfOk r P → IfOk r Q → IfOk r R
-both_ok P Q R (Ok a) f p q = f a p q
-both_ok P Q R (Err e) f p q = tt
-
 pub loop-cut-preserved : goal.loop-cut-preserved
 loop-cut-preserved g c =
     let numbers = g.T.Element.numbers in
@@ -36,3 +32,16 @@ loop-cut-preserved g c =
     record {
       same = k.ranges rest ∙ same;
       ascending = begun_ascends numbers.number numbers.least numbers.greatest c.loop-cut.begun c.in_ok-begun.begun c.cut-item.result rest k.begun ascending }
+
+pub returns : goal.returns
+returns g c =
+    let numbers = g.T.Element.numbers in
+    let none : drop c.loop-cut.cut-index c.args.list.now ≡ [] = grind (arith, common_steps) in
+    let same = rw none at c.loop-cut.invariant.same in
+    let whole = c.in_ok-end_at_greatest.ensures ∙ same in
+    let given = c.in_ok-set.ensures.members in
+    let drained = given.3 in
+    let all : given.1 ≡ c.end_at_greatest.new.ranges.items = sym (map-id given.1)
+        ∙ items_from_drains given.1 (drained.1.0, drained.1.1, λ _. (drained.0, drained.1.2)) (YieldsList-from_vec c.end_at_greatest.new.ranges.items given.2.0 (given.2.1 ∙ search rules)) in
+    set_of_cuts numbers.least numbers.greatest (all_in_numbers numbers c.end_at_greatest.new.ranges.items) (numbers_of numbers c.args.list.now) c.in_ok-set.set
+        c.requires whole c.in_ok-set.ensures.canonical (λ x. given.4 x ∙ ap (λ l. holds (all_in_numbers numbers l) x) all)
