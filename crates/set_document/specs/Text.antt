@@ -93,12 +93,10 @@ kind piece =
     else if bytes_eq piece (codes "^") then Some Xor
     else number_or_span piece
 
--- the words that the language has so far: every kind but names, `-` and `^`
+-- the words that the language has so far: every kind but names
 abbrev pub so_far : Option Kind → Option Kind
 so_far None = None
 so_far (Some (Name name)) = None
-so_far (Some Minus) = None
-so_far (Some Xor) = None
 so_far (Some k) = Some k
 
 -- the kind of a piece in the language so far, or none where it is no word of it

@@ -4,6 +4,7 @@
 -- the values as they are, and no value gives false; in a text without a fault neither happens.
 use Rattle.std.specs.Prelude.{ℕ, ℤ, Bool, true, false, not, ◌&&◌, ◌||◌, if◌then◌else◌, List, [], ◌∷◌, ◌++◌, fold, map, bytes_eq, Option, Some, None}
 use Rattle.number_line.specs.Ranges.{lies_in}
+use Rattle.cut_points.specs.Cuts.{xor}
 use Rattle.set_document.specs.Text.{lines, words, form, kind, Form, Kind, Number, Span, Empty, Full, Name, Not, Or, And, Minus, Xor, Comment, Named, Bad}
 
 -- named lines in order, each with its truth at every number
@@ -27,10 +28,6 @@ abbrev pub on_two : (Bool → Bool → Bool) → List Bool → List Bool
 on_two op [] = []
 on_two op (b ∷ []) = b ∷ []
 on_two op (b ∷ a ∷ rest) = op a b ∷ rest
-
-abbrev pub xor : Bool → Bool → Bool
-xor true b = not b
-xor false b = b
 
 -- a value pushed, where there is one
 abbrev pub push_some : Option Bool → List Bool → List Bool

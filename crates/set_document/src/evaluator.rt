@@ -2,18 +2,18 @@
 ghost use Rattle.std.specs.Prelude.{◌≡◌, ℕ, ◌+◌, ◌<◌, ◌≤◌, ℤ, Bool, ◌≤ℤ◌, [], ◌∷◌, ◌++◌, IfOk, IfErr, OnOk, MatchOption, length, List, Option, option_map, option_copied, Some, None};
 ghost use Rattle.number_line.specs.Ranges.{holds, IsCanonical};
 ghost use Rattle.set_document.specs.Numbers.{least, greatest};
-ghost use Rattle.set_document.specs.Text.{words, form, so_far, Not, Or, And};
+ghost use Rattle.set_document.specs.Text.{words, form, so_far, Not};
 ghost use Rattle.set_document.specs.Truth.{after_form, named, truth};
 ghost use Rattle.set_document.specs.Faults.{judge_word, fault_in_words, fault_in_form, names_after, first_fault, Depth};
 ghost use Rattle.set_document.specs.Words.{shown};
 ghost use Rattle.set_document.specs.Lines.{lines_of, names_of, Agree, AllCanonical};
-ghost use Rattle.set_document.specs.Steps.{IsStep, IsFault, IsFirstFault};
+ghost use Rattle.set_document.specs.Steps.{IsStep, IsFault, IsFirstFault, kind_of};
 ghost use Rattle.set_document.specs.declared.fault.AlgebraError.TheVariants as AlgebraError;
 
 use crate::fault::AlgebraError;
 use crate::line::{LineForm, cut_line, cut_piece, read_line};
 use crate::word::{Name, Word, read_any_word};
-use element_core::NoMemory;
+use cut_points::{difference, symmetric_difference};
 use range_map::{Range, RangeSet};
 use std::alloc::Global;
 
@@ -58,36 +58,36 @@ fn apply_not(
     push_set(stack, set.negated(alloc)?)
 }
 
-fn apply_or(
-    alloc: Global,
-    stack: &mut Vec<RangeSet<i64>>,
-    line: usize,
-    word: usize,
-) -> Result<(), AlgebraError>
-    ensures depth { OnOk result (judge_word [] line word (length stack.old.items) (Some Or) ≡ Depth (length stack.new.items)) }
-    ensures step { OnOk result (IsStep (Some Or) stack.old.items stack.new.items) }
-    ensures fault { IfErr result (IsFault (judge_word [] line word (length stack.old.items) (Some Or))) }
-{
-    let Some((first, second)) = pop_two(stack) else {
-        return Err(AlgebraError::StackShort { line, word });
-    };
-    push_set(stack, first.union(alloc, &second)?)
+// An operator that puts one set in place of the last two.
+#[derive(Clone, Copy)]
+pub(crate) enum Operator {
+    Or,
+    And,
+    Minus,
+    Xor,
 }
 
-fn apply_and(
+#[tactic(auto, unfolding(crate::specs::Numbers::least, crate::specs::Numbers::greatest))]
+fn apply_two(
     alloc: Global,
     stack: &mut Vec<RangeSet<i64>>,
     line: usize,
     word: usize,
+    operator: Operator,
 ) -> Result<(), AlgebraError>
-    ensures depth { OnOk result (judge_word [] line word (length stack.old.items) (Some And) ≡ Depth (length stack.new.items)) }
-    ensures step { OnOk result (IsStep (Some And) stack.old.items stack.new.items) }
-    ensures fault { IfErr result (IsFault (judge_word [] line word (length stack.old.items) (Some And))) }
+    ensures depth { OnOk result (judge_word [] line word (length stack.old.items) (Some (kind_of operator)) ≡ Depth (length stack.new.items)) }
+    ensures step { OnOk result (IsStep (Some (kind_of operator)) stack.old.items stack.new.items) }
+    ensures fault { IfErr result (IsFault (judge_word [] line word (length stack.old.items) (Some (kind_of operator)))) }
 {
     let Some((first, second)) = pop_two(stack) else {
         return Err(AlgebraError::StackShort { line, word });
     };
-    push_set(stack, first.intersection(alloc, &second)?)
+    match operator {
+        Operator::Or => push_set(stack, first.union(alloc, &second)?),
+        Operator::And => push_set(stack, first.intersection(alloc, &second)?),
+        Operator::Minus => push_set(stack, difference(alloc, &first, &second)?),
+        Operator::Xor => push_set(stack, symmetric_difference(alloc, &first, &second)?),
+    }
 }
 
 // What one word does to the stack.
@@ -114,11 +114,11 @@ fn apply_word(
         Some(Word::Empty) => push_set(stack, RangeSet::new(alloc)),
         Some(Word::Full) => push_set(stack, RangeSet::full(alloc)?),
         Some(Word::Not) => apply_not(alloc, stack, line, word),
-        Some(Word::Or) => apply_or(alloc, stack, line, word),
-        Some(Word::And) => apply_and(alloc, stack, line, word),
-        Some(Word::Named(_) | Word::Minus | Word::Xor) | None => {
-            Err(AlgebraError::BadWord { line, word })
-        }
+        Some(Word::Or) => apply_two(alloc, stack, line, word, Operator::Or),
+        Some(Word::And) => apply_two(alloc, stack, line, word, Operator::And),
+        Some(Word::Minus) => apply_two(alloc, stack, line, word, Operator::Minus),
+        Some(Word::Xor) => apply_two(alloc, stack, line, word, Operator::Xor),
+        Some(Word::Named(_)) | None => Err(AlgebraError::BadWord { line, word }),
     }
 }
 

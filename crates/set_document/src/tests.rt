@@ -149,15 +149,32 @@ fn each_fault_has_its_line_and_word(rt: HostRuntime) -> Result<(), AlgebraError>
 }
 
 #[test]
-fn names_and_two_operators_wait(rt: HostRuntime) -> Result<(), AlgebraError> {
+fn the_members_of_one_set_alone(rt: HostRuntime) -> Result<(), AlgebraError> {
     all_give(
         &rt,
         rt.alloc(),
         &[
-            ("a: 1\nb: a\n", "line 2, word 1: bad word\n"),
-            ("a: 1 2 -\n", "line 1, word 3: bad word\n"),
-            ("a: 1 2 ^\n", "line 1, word 3: bad word\n"),
+            ("a: 1..=5 4..=8 ^\n", "a: 1..=3 6..=8 |\n"),
+            ("a: 1..=5 6..=8 ^\n", "a: 1..=8\n"),
+            ("a: 1..=5 1..=5 ^\n", "a: empty\n"),
+            ("a: 3 3 -\n", "a: empty\n"),
+            ("a: 1..=5 4..=8 -\n", "a: 1..=3\n"),
+            ("a: 4..=8 1..=5 -\n", "a: 6..=8\n"),
+            ("a: full 9223372036854775807 -\n", "a: -9223372036854775808..=9223372036854775806\n"),
+            ("a: full -9223372036854775808 ^\n", "a: -9223372036854775807..=9223372036854775807\n"),
+            ("a: 1..=9 3 - 5 ^\n", "a: 1..=2 4..=4 | 6..=9 |\n"),
+            ("a: 1 -\n", "line 1, word 2: too few sets\n"),
+            ("a: ^\n", "line 1, word 1: too few sets\n"),
         ],
+    )
+}
+
+#[test]
+fn names_wait(rt: HostRuntime) -> Result<(), AlgebraError> {
+    all_give(
+        &rt,
+        rt.alloc(),
+        &[("a: 1\nb: a\n", "line 2, word 1: bad word\n")],
     )
 }
 
@@ -181,6 +198,8 @@ fn lines_and_words_are_read(rt: HostRuntime) {
     assert!(&rt; matches!(read_word(b"!"), Some(Word::Not)));
     assert!(&rt; matches!(read_word(b"|"), Some(Word::Or)));
     assert!(&rt; matches!(read_word(b"&"), Some(Word::And)));
+    assert!(&rt; matches!(read_word(b"-"), Some(Word::Minus)));
+    assert!(&rt; matches!(read_word(b"^"), Some(Word::Xor)));
     assert!(&rt; read_word(b"").is_none());
     assert!(&rt; read_word(b"||").is_none());
     assert!(&rt; read_word(b"Full").is_none());
@@ -247,6 +266,7 @@ fn sets_agree_with_the_plain_reading(rt: HostRuntime) -> Result<(), AlgebraError
         "a: -9223372036854775808 9223372036854775807 | !\nb: full 3 ! &\n",
         "a: 1 3 | 5 | 7 | ! 2..=6 &\nb: empty ! 10..=20 12..=14 ! & &\n",
         "z: 5 6 | 7 | 8 | 4..=9 ! |\n# a comment\nz: 0 ! 1 ! &\n",
+        "a: 1..=9 4..=12 ^ 6 -\nb: full 5..=7 - 6 ^ 9223372036854775807 ^\n",
     ];
     for text in texts {
         for literal in literals_of(alloc, text.as_bytes())? {

@@ -127,12 +127,12 @@ pub(crate) fn read_any_word<'t>(piece: &'t [u8]) -> Option<Word<'t>>
 /// The word that a piece between spaces writes, or `None` where it is no word.
 ///
 /// A number is `0`, or an optional `-`, a digit 1 to 9 and further digits, and fits an `i64`; a span is two numbers
-/// with `..=` between them. So far names, `-` and `^` are no words. O(n), and takes no memory.
+/// with `..=` between them. So far names are no words. O(n), and takes no memory.
 pub fn read_word<'t>(piece: &'t [u8]) -> Option<Word<'t>>
     ensures { option_map shown result ≡ word_kind piece.now }
 {
     match read_any_word(piece) {
-        Some(Word::Named(_) | Word::Minus | Word::Xor) => None,
+        Some(Word::Named(_)) => None,
         word => word,
     }
 }
