@@ -29,7 +29,8 @@ where
 {
     type Item = I::Item;
 
-    ghost can_next = { λ s. sides_can I.can_next I.remaining J.can_next J.remaining (union_sides s) };
+    ghost can_next = { λ s. sides_can I.can_next I.remaining J.can_next J.remaining
+        (union_sides s) };
 
     ghost next_gives = { union_steps I.Item.cmp I.next_gives J.next_gives };
 
@@ -49,9 +50,11 @@ impl<I: SortedByItem, J: SortedByItem<Item = I::Item>> SortedByItem for Union<I,
 where
     I::Item: Ord + Drop,
 {
-    ghost in_order = { λ s. sides_ascend I.Item.cmp I.next_gives I.Item.cmp J.next_gives (union_sides s) };
+    ghost in_order = { λ s. sides_ascend I.Item.cmp I.next_gives I.Item.cmp J.next_gives
+        (union_sides s) };
 
     fn mark(&self) {}
 
-    ghost sorted = { λ s h. walk-in_order true true true I.next_gives J.next_gives I.Item.total union_sides s h };
+    ghost sorted = { λ s h. walk-in_order true true true I.next_gives J.next_gives
+        I.Item.total union_sides s h };
 }
