@@ -32,9 +32,9 @@ module _ (lo hi : ℤ) (all : List (ℤ × ℤ)) where
   pub joined_start : BeginInOrder all → IsJoinedSoFar lo hi all [] all
   joined_start h = record { canonical = tt; members = λ x. refl; reached = (from all h).0; begin_by = tt; in_order = (from all h).1 }
     where
-    from : (list : List (ℤ × ℤ)) → BeginInOrder list → (n : ℤ) × BeginInOrderFrom n list
-    from [] k = (pos 0, tt)
-    from (r ∷ rest) k = (r.0, (omega (arith, ints), k))
+      from : (list : List (ℤ × ℤ)) → BeginInOrder list → (n : ℤ) × BeginInOrderFrom n list
+      from [] k = (pos 0, tt)
+      from (r ∷ rest) k = (r.0, (omega (arith, ints), k))
 
   pub joined_next : (out left : List (ℤ × ℤ)) (r : ℤ × ℤ) (rest : List (ℤ × ℤ)) → left ≡ r ∷ rest → IsJoinedSoFar lo hi all out left → BeginBy r.0 out
   joined_next out left r rest e j = let f = rw e at j.in_order in begin_by-raise j.reached r.0 out f.0 j.begin_by
@@ -62,8 +62,10 @@ module _ {T : Type 0} (numbers : Numbering T) where
   in_order_from : (r : T × T) (rest : List (T × T)) → IsSortedBy (λ a b. is_lt (int_cmp (numbers.number a.0) (numbers.number b.0))) (r ∷ rest)
       → BeginInOrderFrom (numbers.number r.0) (all_in_numbers numbers rest)
   in_order_from r [] h = tt
-  in_order_from r (s ∷ rest) h = (not_below (numbers.number r.0) (numbers.number s.0) (h 0 r (omega arith) (omega arith)),
-      in_order_from s rest (λ k d low lt. let next : suc k + 1 ≡ suc (k + 1) = omega arith in rw next at (h (suc k) d (omega arith) (omega arith))))
+  in_order_from r (s ∷ rest) h = (
+    not_below (numbers.number r.0) (numbers.number s.0) (h 0 r (omega arith) (omega arith)),
+    in_order_from s rest (λ k d low lt. let next : suc k + 1 ≡ suc (k + 1) = omega arith in rw next at (h (suc k) d (omega arith) (omega arith))),
+  )
 
   -- sorted by their starts
   pub sorted_in_order : (ranges : List (T × T)) → IsSortedBy (λ a b. is_lt (int_cmp (numbers.number a.0) (numbers.number b.0))) ranges → BeginInOrder (all_in_numbers numbers ranges)
@@ -81,10 +83,10 @@ module _ {T : Type 0} (numbers : Numbering T) where
   holds_by_count x [] = refl
   holds_by_count x (r ∷ rest) = rw (sum_by-cons (around x) r rest) (at (lies_in (in_numbers numbers r) x) (holds_by_count x rest))
     where
-    at : (b : Bool) → holds (all_in_numbers numbers rest) x ≡ nat_lt 0 (sum_by (around x) rest)
-        → (b || holds (all_in_numbers numbers rest) x) ≡ nat_lt 0 (cond b 1 0 + sum_by (around x) rest)
-    at true ih = some (sum_by (around x) rest)
-    at false ih = let none : 0 + sum_by (around x) rest ≡ sum_by (around x) rest = omega arith in rw none ih
+      at : (b : Bool) → holds (all_in_numbers numbers rest) x ≡ nat_lt 0 (sum_by (around x) rest)
+          → (b || holds (all_in_numbers numbers rest) x) ≡ nat_lt 0 (cond b 1 0 + sum_by (around x) rest)
+      at true ih = some (sum_by (around x) rest)
+      at false ih = let none : 0 + sum_by (around x) rest ≡ sum_by (around x) rest = omega arith in rw none ih
 
   -- and so their order doesn't matter
   pub holds_permuted : (old new : List (T × T)) → IsPermutation old new → (x : ℤ) → holds (all_in_numbers numbers new) x ≡ holds (all_in_numbers numbers old) x

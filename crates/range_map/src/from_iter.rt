@@ -12,10 +12,7 @@ use element_core::{Element, NoMemory, compare};
 use std::alloc::Global;
 
 /// The set of the values in any of the ranges, which begin in order.
-fn join_in_order<T: Element>(
-    alloc: Global,
-    ranges: &[Range<T>],
-) -> Result<RangeSet<T>, NoMemory>
+fn join_in_order<T: Element>(alloc: Global, ranges: &[Range<T>]) -> Result<RangeSet<T>, NoMemory>
     requires { BeginInOrder (all_in_numbers T.numbers ranges.now) }
     ensures canonical { IfOk result (IsCanonical T.numbers.least T.numbers.greatest) }
     ensures members { IfOk result (λ set. (x : ℤ) → holds set x ≡ holds (all_in_numbers T.numbers ranges.now) x) }
@@ -28,10 +25,7 @@ fn join_in_order<T: Element>(
 }
 
 /// The set of the values in any of the ranges.
-fn join_all<T: Element>(
-    alloc: Global,
-    mut ranges: Vec<Range<T>>,
-) -> Result<RangeSet<T>, NoMemory>
+fn join_all<T: Element>(alloc: Global, mut ranges: Vec<Range<T>>) -> Result<RangeSet<T>, NoMemory>
     ensures canonical { IfOk result (IsCanonical T.numbers.least T.numbers.greatest) }
     ensures members { IfOk result (λ set. (x : ℤ) → holds set x ≡ holds (all_in_numbers T.numbers ranges.items) x) }
 {
@@ -48,10 +42,8 @@ impl<T: Element> RangeSet<T> {
     ) -> Result<Self, NoMemory>
         requires { (it : I.IntoIter) → I.into_iter_gives iter it → I.IntoIter.can_next it × IsFinite (I.IntoIter.remaining it) }
         ensures canonical { IfOk result (IsCanonical T.numbers.least T.numbers.greatest) }
-        ensures members {
-            IfOk result (λ set. (it : I.IntoIter) × (ranges : List (T × T)) × I.into_iter_gives iter it × Drains I.IntoIter.next_gives it ranges
-                × ((x : ℤ) → holds set x ≡ holds (all_in_numbers T.numbers ranges) x))
-        }
+        ensures members { IfOk result (λ set. (it : I.IntoIter) × (ranges : List (T × T)) × I.into_iter_gives iter it × Drains I.IntoIter.next_gives it ranges
+            × ((x : ℤ) → holds set x ≡ holds (all_in_numbers T.numbers ranges) x)) }
     {
         let ranges = Vec::from_iter(alloc, iter)?;
         let set = join_all(alloc, ranges)?;

@@ -36,7 +36,10 @@ fn ranges_at_the_greatest_value_are_joined(rt: HostRuntime) -> Result<(), Fail> 
     ranges.push(Range::new(i64::MAX, i64::MAX))?;
     ranges.push(Range::new(5, i64::MAX))?;
     let set = RangeSet::try_from_iter(alloc, ranges)?;
-    assert_eq!(rt; ends_of(alloc, &set)?.as_slice(), [(5, i64::MAX)].as_slice());
+    assert_eq!(rt;
+        ends_of(alloc, &set)?.as_slice(),
+        [(5, i64::MAX)].as_slice()
+    );
     Ok(())
 }
 
