@@ -1,14 +1,13 @@
-use Rattle.std.proofs.Common.{◌≡◌, ℕ, zero, suc, ◌+◌, ◌%◌, List, [], ◌∷◌, refl, ap, arith, sym, ◌∙◌}
-use Rattle.std.specs.Prelude.{ℤ, pos, ◌+ℤ◌, ◌-ℤ◌, ◌≤ℤ◌, ◌<ℤ◌, Bool, true, false, not, ◌==◌, ◌||◌, ◌&&◌, is_some, Some, int_le, int_lt, if◌then◌else◌, cond}
+use Rattle.std.proofs.Common.{◌≡◌, ℕ, zero, suc, ◌+◌, ◌%◌, List, [], ◌∷◌, refl, arith, sym, ◌∙◌}
+use Rattle.std.specs.Prelude.{ℤ, pos, ◌+ℤ◌, ◌-ℤ◌, ◌≤ℤ◌, ◌<ℤ◌, Bool, true, false, not, ◌==◌, ◌||◌, is_some, Some, int_le, int_lt, if◌then◌else◌, cond}
 use Rattle.std.specs.List.{count_by}
-use Rattle.std.specs.Ordering.{int_cmp, int_eq, is_eq, match_ordering}
-use Rattle.std.specs.declared.cmp.Ordering.{Ordering}
+use Rattle.std.specs.Ordering.{int_cmp, int_eq}
 use Rattle.std.specs.declared.cmp.Ordering.TheVariants.{Less, Equal, Greater}
 use Rattle.std.proofs.lemmas.Int.{ints, by_lt_z}
 use Rattle.std.proofs.lemmas.List.Sums.{sum_by-cons}
-use Rattle.number_line.specs.Ranges.{lies_in, holds, IsCanonical}
+use Rattle.number_line.specs.Ranges.{holds, IsCanonical}
 use Rattle.ordered_lists.specs.Lists.{has, find}
-use Rattle.number_line.proofs.RangeLemmas.{from_lower, first_holds, rest_holds, below_start, same_list}
+use Rattle.number_line.proofs.RangeLemmas.{first_holds, rest_holds, below_start}
 use Rattle.cut_points.specs.Cuts.{IsAscending, cuts, from_cuts, parity, xor, changes}
 
 -- ---- tests

@@ -1,16 +1,14 @@
 -- Cuts that are put behind others, and the place of a number among cuts.
-use Rattle.std.proofs.Common.{◌≡◌, ℕ, zero, suc, ◌+◌, ◌≤◌, ◌<◌, ◌%◌, List, [], ◌∷◌, ◌++◌, length, take, get_or, map, refl, ap, arith, sym, ◌∙◌, append_assoc}
-use Rattle.std.specs.Prelude.{ℤ, pos, ◌+ℤ◌, ◌≤ℤ◌, ◌<ℤ◌, Bool, true, false, ◌==◌, int_le, int_lt, if◌then◌else◌, cond}
+use Rattle.std.proofs.Common.{◌≡◌, ℕ, zero, suc, ◌+◌, ◌≤◌, ◌<◌, ◌%◌, List, [], ◌∷◌, ◌++◌, length, take, get_or, refl, ap, arith, sym, ◌∙◌, append_assoc}
+use Rattle.std.specs.Prelude.{ℤ, pos, ◌+ℤ◌, ◌≤ℤ◌, Bool, true, false, ◌==◌, int_le, int_lt, if◌then◌else◌, cond}
 use Rattle.std.specs.List.{AllByRecursion, filter, count_by}
 use Rattle.std.specs.List.Sorted.{IsPartitionedBy, IsPartitionPoint}
 use Rattle.std.specs.declared.cmp.Ordering.{Ordering}
 use Rattle.std.specs.declared.cmp.Ordering.TheVariants.{Less}
-use Rattle.std.specs.Ordering.{int_cmp}
 use Rattle.std.proofs.lemmas.Int.{ints}
 use Rattle.std.proofs.lemmas.List.Sums.{sum_by-cons, length-filter}
 use Rattle.element_core.specs.Numbering.{Numbering, IsNumbering}
 use Rattle.ordered_lists.specs.Lists.{set}
-use Rattle.ordered_lists.specs.Search.{IsCutAt}
 use Rattle.ordered_lists.proofs.CutLemmas.{cut_front}
 use Rattle.cut_points.specs.Cuts.{numbers_of, IsAscending, cuts, parity}
 use Rattle.cut_points.proofs.CutLemmas.{cmp_less}

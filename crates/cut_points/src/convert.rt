@@ -145,7 +145,8 @@ fn is_at_most<T: Element>(cut: T, x: T) -> bool
 }
 
 /// Whether `x` is a member of the set with these cuts: whether the count of cuts at most `x` is odd. Finds the count
-/// by binary search, in O(log n) comparisons for n cuts, and takes no memory.
+/// by binary search, in O(log n) comparisons for n cuts, after one pass over the cuts that does nothing with each. Takes
+/// no memory.
 pub fn contains_by_cuts<T: Element>(cuts: &SortedVectorSet<T>, x: T) -> bool
     ensures { result ≡ parity (numbers_of T.numbers cuts.now.items) (T.numbers.number x) }
 {

@@ -1,4 +1,4 @@
-use Rattle.std.proofs.Common.{rules, ◌≡◌, sym, ◌∙◌}
+use Rattle.std.proofs.Common.{rules, ◌≡◌, ◌∙◌}
 use Rattle.std.specs.Prelude.{int_le}
 use Rattle.std.proofs.lemmas.Fn.{always_returns_same}
 use Rattle.cut_points.proofs.ValueLemmas.{sorted_ascends}

@@ -1,5 +1,5 @@
 use Rattle.std.proofs.lemmas.Grind.{common_steps}
-use Rattle.std.proofs.Common.{rules, [], Result, Ok, Err, ◌≡◌, ℤ, ◌≤ℤ◌, IfOk, ◌++◌, ◌∷◌, List, refl, sym, ap, ◌∙◌, ◌+◌, drop, arith, map, map-id, Option, Some, None, option_map, is_none, cond}
+use Rattle.std.proofs.Common.{rules, [], ◌≡◌, ℤ, ◌∷◌, List, sym, ap, ◌∙◌, ◌+◌, drop, arith, map-id, Option, Some, None, option_map, is_none, cond}
 use Rattle.std.specs.Prelude.{pos, ◌+ℤ◌}
 use Rattle.std.proofs.lemmas.Int.{ints}
 use Rattle.std.proofs.lemmas.Iterator.{items_from_drains}

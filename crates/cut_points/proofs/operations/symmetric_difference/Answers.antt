@@ -1,4 +1,4 @@
-use Rattle.std.proofs.Common.{◌≡◌, ap, ap₂, sym, ◌∙◌}
+use Rattle.std.proofs.Common.{◌≡◌, ap, ap₂, ◌∙◌}
 use Rattle.ordered_lists.specs.Lists.{symmetric_difference}
 use Rattle.cut_points.specs.Cuts.{numbers_of, from_cuts}
 use Rattle.cut_points.proofs.EitherLemmas.{either_ascend, either_holds}
