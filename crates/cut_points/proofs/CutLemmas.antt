@@ -41,9 +41,9 @@ odd_next n = grind arith
 pub parity_cons : (c : ℤ) (cs : List ℤ) (x : ℤ) → parity (c ∷ cs) x ≡ xor (int_le c x) (parity cs x)
 parity_cons c cs x = rw (sum_by-cons (λ d. cond (int_le d x) 1 0) c cs) (at (int_le c x))
   where
-  at : (b : Bool) → ((cond b 1 0 + count_by (λ c. int_le c x) cs) % 2 == 1) ≡ xor b (parity cs x)
-  at true = odd_next (count_by (λ c. int_le c x) cs)
-  at false = grind arith
+    at : (b : Bool) → ((cond b 1 0 + count_by (λ c. int_le c x) cs) % 2 == 1) ≡ xor b (parity cs x)
+    at true = odd_next (count_by (λ c. int_le c x) cs)
+    at false = grind arith
 
 pub parity_below : (lo hi : ℤ) (cs : List ℤ) (x : ℤ) → IsAscending lo hi cs → x <ℤ lo → parity cs x ≡ false
 parity_below lo hi [] x a h = refl
@@ -68,12 +68,13 @@ pub cuts_ascend : (lo hi : ℤ) (rs : List (ℤ × ℤ)) → IsCanonical lo hi r
 cuts_ascend lo hi [] c = tt
 cuts_ascend lo hi (r ∷ rest) c = by_lt_z r.1 hi (below (cuts_ascend (r.1 +ℤ pos 2) hi rest c.3)) last
   where
-  below : IsAscending (r.1 +ℤ pos 2) hi (cuts hi rest) → r.1 <ℤ hi → IsAscending lo hi (cuts hi (r ∷ rest))
-  below ih h =
-      let two : (r.1 +ℤ pos 1) +ℤ pos 1 ≡ r.1 +ℤ pos 2 = omega (arith, ints) in
-      rw (lt_yes r.1 hi h) (omega (arith, ints), omega (arith, ints), (omega (arith, ints), omega (arith, ints), rw two ih))
-  last : hi ≤ℤ r.1 → IsAscending lo hi (cuts hi (r ∷ rest))
-  last h = rw (lt_no r.1 hi h, nothing_left (r.1 +ℤ pos 2) hi rest (omega (arith, ints)) c.3) (omega (arith, ints), omega (arith, ints), tt)
+    below : IsAscending (r.1 +ℤ pos 2) hi (cuts hi rest) → r.1 <ℤ hi → IsAscending lo hi (cuts hi (r ∷ rest))
+    below ih h =
+        let two : (r.1 +ℤ pos 1) +ℤ pos 1 ≡ r.1 +ℤ pos 2 = omega (arith, ints) in
+        rw (lt_yes r.1 hi h) (omega (arith, ints), omega (arith, ints), (omega (arith, ints), omega (arith, ints), rw two ih))
+
+    last : hi ≤ℤ r.1 → IsAscending lo hi (cuts hi (r ∷ rest))
+    last h = rw (lt_no r.1 hi h, nothing_left (r.1 +ℤ pos 2) hi rest (omega (arith, ints)) c.3) (omega (arith, ints), omega (arith, ints), tt)
 
 pub from_cuts_canonical : (lo hi : ℤ) (cs : List ℤ) → IsAscending lo hi cs → IsCanonical lo hi (from_cuts hi cs)
 from_cuts_canonical lo hi [] a = tt
@@ -87,14 +88,15 @@ pub ranges_again : (lo hi : ℤ) (rs : List (ℤ × ℤ)) → IsCanonical lo hi 
 ranges_again lo hi [] c = refl
 ranges_again lo hi (r ∷ rest) c = by_lt_z r.1 hi (below (ranges_again (r.1 +ℤ pos 2) hi rest c.3)) last
   where
-  below : from_cuts hi (cuts hi rest) ≡ rest → r.1 <ℤ hi → from_cuts hi (cuts hi (r ∷ rest)) ≡ r ∷ rest
-  below ih h = let back : (r.1 +ℤ pos 1) -ℤ pos 1 ≡ r.1 = omega (arith, ints) in rw (lt_yes r.1 hi h, back, ih)
-  last : hi ≤ℤ r.1 → from_cuts hi (cuts hi (r ∷ rest)) ≡ r ∷ rest
-  last h =
-      let end : hi ≡ r.1 = omega (arith, ints) in
-      let none : rest ≡ [] = nothing_left (r.1 +ℤ pos 2) hi rest (omega (arith, ints)) c.3 in
-      let stop : int_lt r.1 hi ≡ false = lt_no r.1 hi h in
-      rw (stop, none) (rw end)
+    below : from_cuts hi (cuts hi rest) ≡ rest → r.1 <ℤ hi → from_cuts hi (cuts hi (r ∷ rest)) ≡ r ∷ rest
+    below ih h = let back : (r.1 +ℤ pos 1) -ℤ pos 1 ≡ r.1 = omega (arith, ints) in rw (lt_yes r.1 hi h, back, ih)
+
+    last : hi ≤ℤ r.1 → from_cuts hi (cuts hi (r ∷ rest)) ≡ r ∷ rest
+    last h =
+        let end : hi ≡ r.1 = omega (arith, ints) in
+        let none : rest ≡ [] = nothing_left (r.1 +ℤ pos 2) hi rest (omega (arith, ints)) c.3 in
+        let stop : int_lt r.1 hi ≡ false = lt_no r.1 hi h in
+        rw (stop, none) (rw end)
 
 pub cuts_again : (lo hi : ℤ) (cs : List ℤ) → IsAscending lo hi cs → cuts hi (from_cuts hi cs) ≡ cs
 cuts_again lo hi [] a = refl
@@ -116,23 +118,26 @@ pub parity_holds : (lo hi : ℤ) (rs : List (ℤ × ℤ)) (x : ℤ) → IsCanoni
 parity_holds lo hi [] x c q = refl
 parity_holds lo hi (r ∷ rest) x c q = by_lt_z r.1 hi (below (parity_holds (r.1 +ℤ pos 2) hi rest x c.3 q)) last
   where
-  before : x <ℤ r.0 → holds (r ∷ rest) x ≡ false
-  before h = below_start r.0 hi (r ∷ rest) x (omega (arith, ints), c.1, c.2, c.3) h
-  later : x <ℤ (r.1 +ℤ pos 2) → holds rest x ≡ false
-  later h = below_start (r.1 +ℤ pos 2) hi rest x c.3 h
-  below : parity (cuts hi rest) x ≡ holds rest x → r.1 <ℤ hi → parity (cuts hi (r ∷ rest)) x ≡ holds (r ∷ rest) x
-  below ih h =
-      rw (lt_yes r.1 hi h, parity_cons r.0 ((r.1 +ℤ pos 1) ∷ cuts hi rest) x, parity_cons (r.1 +ℤ pos 1) (cuts hi rest) x, ih)
-      (by_lt_z x r.0
+    before : x <ℤ r.0 → holds (r ∷ rest) x ≡ false
+    before h = below_start r.0 hi (r ∷ rest) x (omega (arith, ints), c.1, c.2, c.3) h
+
+    later : x <ℤ (r.1 +ℤ pos 2) → holds rest x ≡ false
+    later h = below_start (r.1 +ℤ pos 2) hi rest x c.3 h
+
+    below : parity (cuts hi rest) x ≡ holds rest x → r.1 <ℤ hi → parity (cuts hi (r ∷ rest)) x ≡ holds (r ∷ rest) x
+    below ih h =
+        rw (lt_yes r.1 hi h, parity_cons r.0 ((r.1 +ℤ pos 1) ∷ cuts hi rest) x, parity_cons (r.1 +ℤ pos 1) (cuts hi rest) x, ih)
+        (by_lt_z x r.0
         (λ k. both_ways _ (holds (r ∷ rest) x) false (rw (le_no r.0 x k, le_no (r.1 +ℤ pos 1) x (omega (arith, ints))) (later (omega (arith, ints)))) (before k))
         (λ k. by_lt_z r.1 x
-          (λ m. both_ways _ (holds (r ∷ rest) x) (holds rest x) (rw (le_yes r.0 x k, le_yes (r.1 +ℤ pos 1) x (omega (arith, ints))) (twice (holds rest x))) (rest_holds r rest x m))
-          (λ m. both_ways _ (holds (r ∷ rest) x) true (rw (le_yes r.0 x k, le_no (r.1 +ℤ pos 1) x (omega (arith, ints)), later (omega (arith, ints))) refl) (first_holds r rest x k m))))
-  last : hi ≤ℤ r.1 → parity (cuts hi (r ∷ rest)) x ≡ holds (r ∷ rest) x
-  last h =
-      let none : rest ≡ [] = nothing_left (r.1 +ℤ pos 2) hi rest (omega (arith, ints)) c.3 in
-      rw (lt_no r.1 hi h, parity_cons r.0 (cuts hi rest) x)
-      (by_lt_z x r.0
+        (λ m. both_ways _ (holds (r ∷ rest) x) (holds rest x) (rw (le_yes r.0 x k, le_yes (r.1 +ℤ pos 1) x (omega (arith, ints))) (twice (holds rest x))) (rest_holds r rest x m))
+        (λ m. both_ways _ (holds (r ∷ rest) x) true (rw (le_yes r.0 x k, le_no (r.1 +ℤ pos 1) x (omega (arith, ints)), later (omega (arith, ints))) refl) (first_holds r rest x k m))))
+
+    last : hi ≤ℤ r.1 → parity (cuts hi (r ∷ rest)) x ≡ holds (r ∷ rest) x
+    last h =
+        let none : rest ≡ [] = nothing_left (r.1 +ℤ pos 2) hi rest (omega (arith, ints)) c.3 in
+        rw (lt_no r.1 hi h, parity_cons r.0 (cuts hi rest) x)
+        (by_lt_z x r.0
         (λ k. both_ways _ (holds (r ∷ rest) x) false (rw (le_no r.0 x k, none) refl) (before k))
         (λ k. both_ways _ (holds (r ∷ rest) x) true (rw (le_yes r.0 x k, none) refl) (first_holds r rest x k (omega (arith, ints)))))
 
@@ -141,9 +146,9 @@ parity_holds lo hi (r ∷ rest) x c q = by_lt_z r.1 hi (below (parity_holds (r.1
 pub has_cons : (c : ℤ) (cs : List ℤ) (x : ℤ) → has int_cmp (c ∷ cs) x ≡ (int_eq c x || has int_cmp cs x)
 has_cons c cs x = at (int_eq c x)
   where
-  at : (b : Bool) → is_some (if b then Some c else find int_cmp cs x) ≡ (b || has int_cmp cs x)
-  at true = refl
-  at false = refl
+    at : (b : Bool) → is_some (if b then Some c else find int_cmp cs x) ≡ (b || has int_cmp cs x)
+    at true = refl
+    at false = refl
 
 pub eq_less : (x y : ℤ) → x <ℤ y → int_eq x y ≡ false
 eq_less x y h = rw (cmp_less x y h)
@@ -169,16 +174,16 @@ has_is_change lo hi [] x a = refl
 has_is_change lo hi (c ∷ cs) x a =
     rw (parity_cons c cs x, parity_cons c cs (x -ℤ pos 1))
     (by_lt_z x c
-      (λ k. rw (cmp_more c x k, le_no c x k, le_no c (x -ℤ pos 1) (omega (arith, ints))) (has_is_change (c +ℤ pos 1) hi cs x a.2))
-      (λ k. by_lt_z c x
-        (λ m. rw (cmp_less c x m, le_yes c x k, le_yes c (x -ℤ pos 1) (omega (arith, ints))) (has_is_change (c +ℤ pos 1) hi cs x a.2 ∙ sym (both_turn (parity cs x) (parity cs (x -ℤ pos 1)))))
-        (λ m. here (omega (arith, ints)))))
+    (λ k. rw (cmp_more c x k, le_no c x k, le_no c (x -ℤ pos 1) (omega (arith, ints))) (has_is_change (c +ℤ pos 1) hi cs x a.2))
+    (λ k. by_lt_z c x
+    (λ m. rw (cmp_less c x m, le_yes c x k, le_yes c (x -ℤ pos 1) (omega (arith, ints))) (has_is_change (c +ℤ pos 1) hi cs x a.2 ∙ sym (both_turn (parity cs x) (parity cs (x -ℤ pos 1)))))
+    (λ m. here (omega (arith, ints)))))
   where
-  here : x ≡ c → has int_cmp (c ∷ cs) x ≡ xor (xor (int_le c x) (parity cs x)) (xor (int_le c (x -ℤ pos 1)) (parity cs (x -ℤ pos 1)))
-  here e =
-      let one : parity cs x ≡ false = parity_below (c +ℤ pos 1) hi cs x a.2 (omega (arith, ints)) in
-      let two : parity cs (x -ℤ pos 1) ≡ false = parity_below (c +ℤ pos 1) hi cs (x -ℤ pos 1) a.2 (omega (arith, ints)) in
-      rw (one, two, le_yes c x (omega (arith, ints)), le_no c (x -ℤ pos 1) (omega (arith, ints)), e, cmp_same c)
+    here : x ≡ c → has int_cmp (c ∷ cs) x ≡ xor (xor (int_le c x) (parity cs x)) (xor (int_le c (x -ℤ pos 1)) (parity cs (x -ℤ pos 1)))
+    here e =
+        let one : parity cs x ≡ false = parity_below (c +ℤ pos 1) hi cs x a.2 (omega (arith, ints)) in
+        let two : parity cs (x -ℤ pos 1) ≡ false = parity_below (c +ℤ pos 1) hi cs (x -ℤ pos 1) a.2 (omega (arith, ints)) in
+        rw (one, two, le_yes c x (omega (arith, ints)), le_no c (x -ℤ pos 1) (omega (arith, ints)), e, cmp_same c)
 
 xor_back : (a b c : Bool) → xor a b ≡ xor c b → a ≡ c
 xor_back true true true e = refl

@@ -57,17 +57,17 @@ module _ {T : Type 0} (cmp : T → T → Ordering) (n : Numbering T) (law : IsNu
 pub cuts_cons : (hi : ℤ) (r : ℤ × ℤ) (rest : List (ℤ × ℤ)) → cuts hi (r ∷ []) ++ cuts hi rest ≡ cuts hi (r ∷ rest)
 cuts_cons hi r rest = at (int_lt r.1 hi)
   where
-  at : (b : Bool) → (if b then r.0 ∷ (r.1 +ℤ pos 1) ∷ [] else r.0 ∷ []) ++ cuts hi rest ≡ (if b then r.0 ∷ (r.1 +ℤ pos 1) ∷ cuts hi rest else r.0 ∷ cuts hi rest)
-  at true = refl
-  at false = refl
+    at : (b : Bool) → (if b then r.0 ∷ (r.1 +ℤ pos 1) ∷ [] else r.0 ∷ []) ++ cuts hi rest ≡ (if b then r.0 ∷ (r.1 +ℤ pos 1) ∷ cuts hi rest else r.0 ∷ cuts hi rest)
+    at true = refl
+    at false = refl
 
 -- the first of them alone
 pub first_ascends : (lo hi : ℤ) (done : List ℤ) (r : ℤ × ℤ) → IsAscending lo hi (done ++ cuts hi (r ∷ [])) → IsAscending lo hi (done ++ r.0 ∷ [])
 first_ascends lo hi done r = at (int_lt r.1 hi)
   where
-  at : (b : Bool) → IsAscending lo hi (done ++ (if b then r.0 ∷ (r.1 +ℤ pos 1) ∷ [] else r.0 ∷ [])) → IsAscending lo hi (done ++ r.0 ∷ [])
-  at true a = ascending_front lo hi (done ++ r.0 ∷ []) ((r.1 +ℤ pos 1) ∷ []) (rw (append_assoc done (r.0 ∷ []) ((r.1 +ℤ pos 1) ∷ [])) a)
-  at false a = a
+    at : (b : Bool) → IsAscending lo hi (done ++ (if b then r.0 ∷ (r.1 +ℤ pos 1) ∷ [] else r.0 ∷ [])) → IsAscending lo hi (done ++ r.0 ∷ [])
+    at true a = ascending_front lo hi (done ++ r.0 ∷ []) ((r.1 +ℤ pos 1) ∷ []) (rw (append_assoc done (r.0 ∷ []) ((r.1 +ℤ pos 1) ∷ [])) a)
+    at false a = a
 
 -- the cuts so far, those of the next range, and those of the ranges behind it
 module _ (hi : ℤ) (done : List ℤ) (r : ℤ × ℤ) (rest set : List (ℤ × ℤ)) (same : done ++ cuts hi (r ∷ rest) ≡ cuts hi set) where
@@ -121,5 +121,5 @@ module _ {T : Type 0} (n : Numbering T) where
   counted k xs i h p =
       let front : take i xs ≡ filter (λ x. int_le (n.number x) k) xs = cut_front (λ x. int_le (n.number x) k) xs i (record { in_range = h; front = p.0; back = p.1 }) in
       let count : i ≡ count_by (λ c. int_le c k) (numbers_of n xs) =
-          sym (length_take i xs h) ∙ (ap length front ∙ (length-filter (λ x. int_le (n.number x) k) xs ∙ sym (count_numbers k xs))) in
+      sym (length_take i xs h) ∙ (ap length front ∙ (length-filter (λ x. int_le (n.number x) k) xs ∙ sym (count_numbers k xs))) in
       ap (λ m. m % 2 == 1) count

@@ -53,29 +53,29 @@ module _ {T : Type 0} (cmp : T → T → Ordering) (n : Numbering T) (law : IsNu
   has_at [] k v w = refl
   has_at (x ∷ xs) k v w = rw (law.order x k v.0 w) (at (has_at xs k v.1 w) (is_eq (int_cmp (n.number x) (n.number k))))
     where
-    at : has cmp xs k ≡ has int_cmp (numbers_of n xs) (n.number k) → (b : Bool)
-        → is_some (if b then Some x else find cmp xs k) ≡ is_some (if b then Some (n.number x) else find int_cmp (numbers_of n xs) (n.number k))
-    at ih true = refl
-    at ih false = ih
+      at : has cmp xs k ≡ has int_cmp (numbers_of n xs) (n.number k) → (b : Bool)
+          → is_some (if b then Some x else find cmp xs k) ≡ is_some (if b then Some (n.number x) else find int_cmp (numbers_of n xs) (n.number k))
+      at ih true = refl
+      at ih false = ih
 
   add_at : (ys : List T) (x : T) → AllByRecursion n.IsValue ys → n.IsValue x → numbers_of n (add cmp ys x) ≡ add int_cmp (numbers_of n ys) (n.number x)
   add_at [] x v w = refl
   add_at (y ∷ ys) x v w = rw (law.order y x v.0 w) (at (add_at ys x v.1 w) (int_cmp (n.number y) (n.number x)))
     where
-    at : numbers_of n (add cmp ys x) ≡ add int_cmp (numbers_of n ys) (n.number x) → (o : Ordering)
-        → numbers_of n (match_ordering o (y ∷ add cmp ys x) (y ∷ ys) (x ∷ y ∷ ys)) ≡ match_ordering o (n.number y ∷ add int_cmp (numbers_of n ys) (n.number x)) (n.number y ∷ numbers_of n ys) (n.number x ∷ n.number y ∷ numbers_of n ys)
-    at ih Less = ap (λ l. n.number y ∷ l) ih
-    at ih Equal = refl
-    at ih Greater = refl
+      at : numbers_of n (add cmp ys x) ≡ add int_cmp (numbers_of n ys) (n.number x) → (o : Ordering)
+          → numbers_of n (match_ordering o (y ∷ add cmp ys x) (y ∷ ys) (x ∷ y ∷ ys)) ≡ match_ordering o (n.number y ∷ add int_cmp (numbers_of n ys) (n.number x)) (n.number y ∷ numbers_of n ys) (n.number x ∷ n.number y ∷ numbers_of n ys)
+      at ih Less = ap (λ l. n.number y ∷ l) ih
+      at ih Equal = refl
+      at ih Greater = refl
 
   values_add : (ys : List T) (x : T) → AllByRecursion n.IsValue ys → n.IsValue x → AllByRecursion n.IsValue (add cmp ys x)
   values_add [] x v w = (w, tt)
   values_add (y ∷ ys) x v w = at (values_add ys x v.1 w) (cmp y x)
     where
-    at : AllByRecursion n.IsValue (add cmp ys x) → (o : Ordering) → AllByRecursion n.IsValue (match_ordering o (y ∷ add cmp ys x) (y ∷ ys) (x ∷ y ∷ ys))
-    at ih Less = (v.0, ih)
-    at ih Equal = v
-    at ih Greater = (w, v)
+      at : AllByRecursion n.IsValue (add cmp ys x) → (o : Ordering) → AllByRecursion n.IsValue (match_ordering o (y ∷ add cmp ys x) (y ∷ ys) (x ∷ y ∷ ys))
+      at ih Less = (v.0, ih)
+      at ih Equal = v
+      at ih Greater = (w, v)
 
   union_at : (xs ys : List T) → AllByRecursion n.IsValue xs → AllByRecursion n.IsValue ys → numbers_of n (union cmp xs ys) ≡ union int_cmp (numbers_of n xs) (numbers_of n ys)
   union_at xs [] v w = refl
@@ -89,17 +89,17 @@ module _ {T : Type 0} (cmp : T → T → Ordering) (n : Numbering T) (law : IsNu
   filter_at p q [] v h = refl
   filter_at p q (x ∷ xs) v h = rw (h x v.0) (at (filter_at p q xs v.1 h) (q (n.number x)))
     where
-    at : numbers_of n (filter p xs) ≡ filter q (numbers_of n xs) → (b : Bool) → numbers_of n (cond b (x ∷ filter p xs) (filter p xs)) ≡ cond b (n.number x ∷ filter q (numbers_of n xs)) (filter q (numbers_of n xs))
-    at ih true = ap (λ l. n.number x ∷ l) ih
-    at ih false = ih
+      at : numbers_of n (filter p xs) ≡ filter q (numbers_of n xs) → (b : Bool) → numbers_of n (cond b (x ∷ filter p xs) (filter p xs)) ≡ cond b (n.number x ∷ filter q (numbers_of n xs)) (filter q (numbers_of n xs))
+      at ih true = ap (λ l. n.number x ∷ l) ih
+      at ih false = ih
 
   values_filter : (p : T → Bool) (xs : List T) → AllByRecursion n.IsValue xs → AllByRecursion n.IsValue (filter p xs)
   values_filter p [] v = tt
   values_filter p (x ∷ xs) v = at (values_filter p xs v.1) (p x)
     where
-    at : AllByRecursion n.IsValue (filter p xs) → (b : Bool) → AllByRecursion n.IsValue (cond b (x ∷ filter p xs) (filter p xs))
-    at ih true = (v.0, ih)
-    at ih false = ih
+      at : AllByRecursion n.IsValue (filter p xs) → (b : Bool) → AllByRecursion n.IsValue (cond b (x ∷ filter p xs) (filter p xs))
+      at ih true = (v.0, ih)
+      at ih false = ih
 
   difference_at : (xs ys : List T) → AllByRecursion n.IsValue xs → AllByRecursion n.IsValue ys → numbers_of n (difference cmp xs ys) ≡ difference int_cmp (numbers_of n xs) (numbers_of n ys)
   difference_at xs ys v w = filter_at (λ x. not (has cmp ys x)) (λ k. not (has int_cmp (numbers_of n ys) k)) xs v (λ x u. ap not (has_at ys x w u))

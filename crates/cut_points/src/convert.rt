@@ -26,10 +26,7 @@ fn push_cut<T: Element>(kept: &mut SortedVectorSet<T>, cut: T) -> Result<(), NoM
 }
 
 /// Puts the cuts of `range`, which are above all others, behind those kept.
-fn push_cuts<T: Element>(
-    kept: &mut SortedVectorSet<T>,
-    range: Range<T>,
-) -> Result<(), NoMemory>
+fn push_cuts<T: Element>(kept: &mut SortedVectorSet<T>, range: Range<T>) -> Result<(), NoMemory>
     requires values { AllByRecursion T.numbers.IsValue kept.old.items }
     requires ascending { IsAscending T.numbers.least T.numbers.greatest (numbers_of T.numbers kept.old.items ++ list_cuts T.numbers.greatest (in_numbers T.numbers range ∷ [])) }
     ensures values { OnOk result (AllByRecursion T.numbers.IsValue kept.new.items) }
@@ -46,10 +43,7 @@ fn push_cuts<T: Element>(
 
 /// The cuts of `set`, ascending: the first value of each range, and the value behind the last one of each where the
 /// type has one. Takes O(n) time for n ranges, and memory for 2n cuts.
-pub fn cuts<T: Element>(
-    alloc: Global,
-    set: &RangeSet<T>,
-) -> Result<SortedVectorSet<T>, NoMemory>
+pub fn cuts<T: Element>(alloc: Global, set: &RangeSet<T>) -> Result<SortedVectorSet<T>, NoMemory>
     ensures numbers { IfOk result (λ found. numbers_of T.numbers found.items ≡ list_cuts T.numbers.greatest set.now) }
     ensures values { IfOk result (λ found. AllByRecursion T.numbers.IsValue found.items) }
 {
@@ -76,10 +70,8 @@ fn take_cut<T: Element>(
     cut: T,
 ) -> Result<Option<T>, NoMemory>
     requires { IfSome begun (λ start. T.numbers.number start <ℤ T.numbers.number cut) }
-    ensures ranges {
-        IfOk result (λ now. (rest : List ℤ) → all_in_numbers T.numbers ranges.new.items ++ from_cuts T.numbers.greatest (with_begun (option_map T.numbers.number now) rest)
-            ≡ all_in_numbers T.numbers ranges.old.items ++ from_cuts T.numbers.greatest (with_begun (option_map T.numbers.number begun) (T.numbers.number cut ∷ rest)))
-    }
+    ensures ranges { IfOk result (λ now. (rest : List ℤ) → all_in_numbers T.numbers ranges.new.items ++ from_cuts T.numbers.greatest (with_begun (option_map T.numbers.number now) rest)
+        ≡ all_in_numbers T.numbers ranges.old.items ++ from_cuts T.numbers.greatest (with_begun (option_map T.numbers.number begun) (T.numbers.number cut ∷ rest))) }
     ensures begun { IfOk result (λ now. now ≡ cond (is_none begun) (Some cut) None) }
 {
     let Some(start) = begun else {
@@ -94,10 +86,7 @@ fn take_cut<T: Element>(
 }
 
 /// Ends a begun range at the greatest value.
-fn end_at_greatest<T: Element>(
-    ranges: &mut Vec<Range<T>>,
-    begun: Option<T>,
-) -> Result<(), NoMemory>
+fn end_at_greatest<T: Element>(ranges: &mut Vec<Range<T>>, begun: Option<T>) -> Result<(), NoMemory>
     ensures { OnOk result (all_in_numbers T.numbers ranges.new.items ≡ all_in_numbers T.numbers ranges.old.items ++ from_cuts T.numbers.greatest (with_begun (option_map T.numbers.number begun) [])) }
 {
     let Some(start) = begun else {

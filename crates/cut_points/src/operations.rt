@@ -1,5 +1,6 @@
 //! The members of just one of two sets, by cuts, and those of the left one alone.
 #![tactic(auto, using(sorted_iter::specs::Sources::sources))]
+
 ghost use Rattle.std.specs.Prelude.{◌≡◌, ℤ, ◌≤ℤ◌, ◌&&◌, not, IfOk};
 ghost use Rattle.std.specs.List.Sorted.{IsStrictlySortedBy};
 ghost use Rattle.number_line.specs.Ranges.{holds, IsCanonical};
@@ -13,11 +14,7 @@ use sorted_iter::{AssumeSortedByItemExt, SortedIterator};
 use std::alloc::Global;
 
 /// The cuts that just one of the two lists has, ascending.
-fn in_just_one<T: Element>(
-    alloc: Global,
-    left: &[T],
-    right: &[T],
-) -> Result<Vec<T>, NoMemory>
+fn in_just_one<T: Element>(alloc: Global, left: &[T], right: &[T]) -> Result<Vec<T>, NoMemory>
     requires left { IsStrictlySortedBy T.cmp left.now }
     requires right { IsStrictlySortedBy T.cmp right.now }
     ensures { IfOk result (λ both. both.items ≡ symmetric_difference T.cmp left.now right.now) }
@@ -45,7 +42,11 @@ pub fn symmetric_difference<T: Element>(
     right.ranges();
     let left_cuts = cuts(alloc, left)?;
     let right_cuts = cuts(alloc, right)?;
-    let both = in_just_one(alloc, left_cuts.iter().as_slice(), right_cuts.iter().as_slice())?;
+    let both = in_just_one(
+        alloc,
+        left_cuts.iter().as_slice(),
+        right_cuts.iter().as_slice(),
+    )?;
     let set = set_of(alloc, &both)?;
     Ok(set)
 }

@@ -39,7 +39,10 @@ fn starts_and_successors_of_ends(rt: HostRuntime) -> Result<(), Fail> {
     let alloc = rt.alloc();
     let set = two_of(alloc, Range::new(1i64, 3), Range::new(6, 8))?;
     let found = cuts(alloc, &set)?;
-    assert_eq!(rt; items_of(alloc, &found)?.as_slice(), [1, 4, 6, 9].as_slice());
+    assert_eq!(rt;
+        items_of(alloc, &found)?.as_slice(),
+        [1, 4, 6, 9].as_slice()
+    );
     let again = from_cuts(alloc, &found)?;
     assert!(rt; again == set);
     Ok(())
@@ -52,7 +55,10 @@ fn no_cut_behind_the_greatest_value(rt: HostRuntime) -> Result<(), Fail> {
     let found = cuts(alloc, &set)?;
     assert_eq!(rt; items_of(alloc, &found)?.as_slice(), [5].as_slice());
     let again = from_cuts(alloc, &found)?;
-    assert_eq!(rt; ends_of(alloc, &again)?.as_slice(), [(5, i64::MAX)].as_slice());
+    assert_eq!(rt;
+        ends_of(alloc, &again)?.as_slice(),
+        [(5, i64::MAX)].as_slice()
+    );
     Ok(())
 }
 
@@ -65,7 +71,10 @@ fn empty_and_full_sets(rt: HostRuntime) -> Result<(), Fail> {
     let all = cuts(alloc, &RangeSet::<u8>::full(alloc)?)?;
     assert_eq!(rt; items_of(alloc, &all)?.as_slice(), [0].as_slice());
     assert!(rt; contains_by_cuts(&all, 0) && contains_by_cuts(&all, 255));
-    assert_eq!(rt; ends_of(alloc, &from_cuts(alloc, &all)?)?.as_slice(), [(0, 255)].as_slice());
+    assert_eq!(rt;
+        ends_of(alloc, &from_cuts(alloc, &all)?)?.as_slice(),
+        [(0, 255)].as_slice()
+    );
     Ok(())
 }
 
@@ -99,7 +108,17 @@ fn membership_around_cuts(rt: HostRuntime) -> Result<(), Fail> {
     let alloc = rt.alloc();
     let set = two_of(alloc, Range::new(1u8, 3), Range::new(6, 8))?;
     let found = cuts(alloc, &set)?;
-    for (value, member) in [(0, false), (1, true), (3, true), (4, false), (5, false), (6, true), (8, true), (9, false), (255, false)] {
+    for (value, member) in [
+        (0, false),
+        (1, true),
+        (3, true),
+        (4, false),
+        (5, false),
+        (6, true),
+        (8, true),
+        (9, false),
+        (255, false),
+    ] {
         assert_eq!(rt; contains_by_cuts(&found, value), member, "at {value}");
     }
     Ok(())
@@ -111,7 +130,10 @@ fn members_of_just_one_and_of_the_left_alone(rt: HostRuntime) -> Result<(), Fail
     let left = RangeSet::from_range(alloc, Range::new(1i64, 5))?;
     let right = RangeSet::from_range(alloc, Range::new(4, 8))?;
     let either = symmetric_difference(alloc, &left, &right)?;
-    assert_eq!(rt; ends_of(alloc, &either)?.as_slice(), [(1, 3), (6, 8)].as_slice());
+    assert_eq!(rt;
+        ends_of(alloc, &either)?.as_slice(),
+        [(1, 3), (6, 8)].as_slice()
+    );
     let alone = difference(alloc, &left, &right)?;
     assert_eq!(rt; ends_of(alloc, &alone)?.as_slice(), [(1, 3)].as_slice());
     assert!(rt; symmetric_difference(alloc, &left, &left)?.is_empty());

@@ -12,5 +12,5 @@ returns g c =
     let items : c.as_slice-list.result.now ≡ c.args.cuts.now.items = c.as_slice-list.ensures.value ∙ c.iter.ensures.rest in
     let ascends = sorted_ascends g.T.Ord.cmp n g.met.T.Element.numbered c.as_slice-list.result.now c.are_values.ensures (rw items c.iter.ensures.ascending) in
     let point = c.partition_point.ensures.partitioned (λ y. int_le (n.number y) k) (always_returns_same _ _ _ (λ a r h called. search rules))
-        (parted n n.least n.greatest k c.as_slice-list.result.now ascends) in
+    (parted n n.least n.greatest k c.as_slice-list.result.now ascends) in
     rw (← items) (counted n k c.as_slice-list.result.now c.partition_point.result c.partition_point.ensures.bound point)

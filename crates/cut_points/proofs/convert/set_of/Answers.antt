@@ -31,7 +31,8 @@ loop-cut-preserved g c =
     let ascending = rw e at c.loop-cut.invariant.ascending in
     record {
       same = k.ranges rest ∙ same;
-      ascending = begun_ascends numbers.number numbers.least numbers.greatest c.loop-cut.begun c.in_ok-begun.begun c.cut-item.result rest k.begun ascending }
+      ascending = begun_ascends numbers.number numbers.least numbers.greatest c.loop-cut.begun c.in_ok-begun.begun c.cut-item.result rest k.begun ascending;
+    }
 
 pub returns : goal.returns
 returns g c =
@@ -42,6 +43,6 @@ returns g c =
     let given = c.in_ok-set.ensures.members in
     let drained = given.3 in
     let all : given.1 ≡ c.end_at_greatest.new.ranges.items = sym (map-id given.1)
-        ∙ items_from_drains given.1 (drained.1.0, drained.1.1, λ _. (drained.0, drained.1.2)) (YieldsList-from_vec c.end_at_greatest.new.ranges.items given.2.0 (given.2.1 ∙ search rules)) in
+    ∙ items_from_drains given.1 (drained.1.0, drained.1.1, λ _. (drained.0, drained.1.2)) (YieldsList-from_vec c.end_at_greatest.new.ranges.items given.2.0 (given.2.1 ∙ search rules)) in
     set_of_cuts numbers.least numbers.greatest (all_in_numbers numbers c.end_at_greatest.new.ranges.items) (numbers_of numbers c.args.list.now) c.in_ok-set.set
-        c.requires whole c.in_ok-set.ensures.canonical (λ x. given.4 x ∙ ap (λ l. holds (all_in_numbers numbers l) x) all)
+    c.requires whole c.in_ok-set.ensures.canonical (λ x. given.4 x ∙ ap (λ l. holds (all_in_numbers numbers l) x) all)

@@ -10,4 +10,5 @@ invariant-loop-cut g l =
     let rest = with_begun (option_map numbers.number l.begun) (numbers_of numbers (drop l.cut-index l.list)) in
     record {
       same : all_in_numbers numbers l.ranges.items ++ from_cuts numbers.greatest rest ≡ from_cuts numbers.greatest (numbers_of numbers l.list);
-      ascending : IsAscending numbers.least numbers.greatest rest }
+      ascending : IsAscending numbers.least numbers.greatest rest;
+    }

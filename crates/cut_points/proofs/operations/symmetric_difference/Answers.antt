@@ -13,8 +13,8 @@ set_of-requires g c =
     let right : c.as_slice-2.result.now ≡ b = c.as_slice-2.ensures.value ∙ c.iter-2.ensures.rest in
     let both : c.in_ok-both.both.items ≡ symmetric_difference g.T.Ord.cmp a b = c.in_ok-both.ensures ∙ ap₂ (symmetric_difference g.T.Ord.cmp) left right in
     rw c.deref.ensures.value (either_ascend g.T.Ord.cmp n g.met.T.Element.numbered a b c.in_ok-both.both.items c.args.left.now c.args.right.now
-        c.in_ok-left_cuts.ensures.values c.in_ok-right_cuts.ensures.values
-        c.in_ok-left_cuts.ensures.numbers c.in_ok-right_cuts.ensures.numbers c.ranges-2.ensures.canonical c.ranges-3.ensures.canonical both)
+    c.in_ok-left_cuts.ensures.values c.in_ok-right_cuts.ensures.values
+    c.in_ok-left_cuts.ensures.numbers c.in_ok-right_cuts.ensures.numbers c.ranges-2.ensures.canonical c.ranges-3.ensures.canonical both)
 
 pub returns-clause-members : goal.returns-clause-members
 returns-clause-members g c =
@@ -26,5 +26,5 @@ returns-clause-members g c =
     let both : c.in_ok-both.both.items ≡ symmetric_difference g.T.Ord.cmp a b = c.in_ok-both.ensures ∙ ap₂ (symmetric_difference g.T.Ord.cmp) left right in
     let set : c.in_ok-set.set ≡ from_cuts n.greatest (numbers_of n c.in_ok-both.both.items) = c.in_ok-set.ensures ∙ ap (λ l. from_cuts n.greatest (numbers_of n l)) c.deref.ensures.value in
     either_holds g.T.Ord.cmp n g.met.T.Element.numbered a b c.in_ok-both.both.items c.args.left.now c.args.right.now
-        c.in_ok-left_cuts.ensures.values c.in_ok-right_cuts.ensures.values
-        c.in_ok-left_cuts.ensures.numbers c.in_ok-right_cuts.ensures.numbers c.ranges-2.ensures.canonical c.ranges-3.ensures.canonical both c.in_ok-set.set set
+    c.in_ok-left_cuts.ensures.values c.in_ok-right_cuts.ensures.values
+    c.in_ok-left_cuts.ensures.numbers c.in_ok-right_cuts.ensures.numbers c.ranges-2.ensures.canonical c.ranges-3.ensures.canonical both c.in_ok-set.set set
