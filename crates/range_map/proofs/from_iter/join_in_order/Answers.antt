@@ -1,4 +1,4 @@
-use Rattle.std.proofs.Common.{◌≡◌, [], ◌∷◌, ◌+◌, drop, arith, ap, map}
+use Rattle.std.proofs.Common.{◌≡◌, [], ◌∷◌, ◌+◌, drop, arith, ap}
 use Rattle.std.proofs.lemmas.Grind.{common_steps}
 use Rattle.range_map.specs.Set.{all_in_numbers}
 use Rattle.range_map.proofs.JoinLemmas.{joined_start, joined_next, joined_step, joined_all}
