@@ -1,5 +1,5 @@
 -- The parts of a list that is cut at a place.
-use Rattle.std.proofs.Common.{◌≡◌, ℕ, zero, suc, ◌-◌, Bool, not, ◌&&◌, List, [], ◌∷◌, take, drop, refl, ap, arith}
+use Rattle.std.proofs.Common.{◌≡◌, ℕ, zero, suc, ◌-◌, Bool, not, ◌&&◌, List, [], ◌∷◌, take, drop, refl, ap, true, arith}
 use Rattle.std.specs.declared.cmp.Ordering.{Ordering}
 use Rattle.std.specs.declared.cmp.Ordering.TheVariants.{Less}
 use Rattle.std.specs.List.{AllByRecursion, filter}
@@ -61,3 +61,9 @@ cut_between low high (x ∷ xs) (suc i) zero a b =
 cut_between low high (x ∷ xs) (suc i) (suc j) a b =
     let n : suc j - suc i ≡ j - i = omega arith in
     rw (n, a.front 0 x (omega arith) (omega arith)) (cut_between low high xs i j (cut_tail low x xs i a) (cut_tail high x xs j b))
+
+-- each item before the cut passes the test
+pub cut_all : {A : Type 0} (test : A → Bool) (xs : List A) (i : ℕ) → IsCutAt test xs i → AllByRecursion (λ x. test x ≡ true) (take i xs)
+cut_all test xs zero c = tt
+cut_all test [] (suc i) c = tt
+cut_all test (x ∷ xs) (suc i) c = (c.front 0 x (omega arith) (omega arith), cut_all test xs i (cut_tail test x xs i c))

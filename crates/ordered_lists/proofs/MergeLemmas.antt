@@ -1,5 +1,5 @@
 -- Placing the items of a second list in order is a merge.
-use Rattle.std.proofs.Common.{◌≡◌, zero, suc, ◌+◌, ◌<◌, ◌≤◌, List, [], ◌∷◌, ◌++◌, length, Option, Some, None, IsSome, refl, sym, ap, ◌∙◌, subst, arith}
+use Rattle.std.proofs.Common.{◌≡◌, zero, ◌<◌, List, [], ◌∷◌, ◌++◌, length, Option, Some, None, IsSome, refl, ap, ◌∙◌, subst, arith}
 use Rattle.std.specs.declared.cmp.Ordering.{Ordering}
 use Rattle.std.specs.declared.cmp.Ordering.TheVariants.{Less, Equal, Greater}
 use Rattle.std.specs.Cmp.{IsTotalOrder}
@@ -10,6 +10,10 @@ use Rattle.std.proofs.lemmas.Bool.{false≢true}
 use Rattle.ordered_lists.specs.Lists.{set, sets}
 use Rattle.ordered_lists.specs.Merge.{side}
 use Rattle.ordered_lists.proofs.PlaceLemmas.{all_map, below_all, set_ascends}
+
+pub no_item : {A : Type 0} (xs : List A) → length xs ≡ zero → xs ≡ []
+no_item [] none = refl
+no_item (x ∷ xs) none = absurd (omega arith)
 
 module _ {A : Type 0} (cmp : A → A → Ordering) where
   -- an item below all of the second list stays first

@@ -1,14 +1,15 @@
 -- What placing a value at a key does to pairs in order.
-use Rattle.std.proofs.Common.{◌≡◌, ℕ, zero, suc, ◌+◌, ◌-◌, ◌<◌, ◌≤◌, true, false, List, [], ◌∷◌, length, get_or, set, slice_get, slice_set, Option, Some, None, Result, Ok, Err, IfOk, IfErr, refl, sym, ap, ◌∙◌, subst, arith}
+use Rattle.std.proofs.Common.{◌≡◌, ℕ, zero, suc, ◌-◌, ◌<◌, ◌≤◌, true, false, List, [], ◌∷◌, length, map, get_or, set, slice_get, Option, Some, None, Result, Ok, Err, IfOk, IfErr, refl, ap, ◌∙◌, subst, arith}
 use Rattle.std.specs.declared.cmp.Ordering.{Ordering}
 use Rattle.std.specs.declared.cmp.Ordering.TheVariants.{Less, Equal, Greater}
 use Rattle.std.specs.Ordering.{match_ordering, is_eq, is_lt, is_le}
 use Rattle.std.specs.Cmp.{IsTotalOrder}
-use Rattle.std.specs.List.{AllByRecursion, insert, remove}
+use Rattle.std.specs.Option.{option_map}
+use Rattle.std.specs.List.{AllByRecursion, AllZip, insert, remove}
 use Rattle.std.specs.List.Sorted.{IsSearchInRange, IsBinarySearchResult, IsStrictlySortedBy}
 use Rattle.ordered_lists.specs.Lists.{by_key, to_key, find, put, set as place}
-use Rattle.ordered_lists.specs.Search.{set_value, IsCutAt, IsFound, IsMissing, IsPairFound, IsPairMissing}
-use Rattle.ordered_lists.proofs.SearchLemmas.{searched, after_last, get_is}
+use Rattle.ordered_lists.specs.Search.{set_value, IsFound, IsMissing, IsPairFound, IsPairMissing}
+use Rattle.ordered_lists.proofs.SearchLemmas.{searched, after_last}
 
 pub by_key_total : {K V : Type 0} {cmp : K → K → Ordering} → IsTotalOrder cmp → IsTotalOrder (by_key {V = V} cmp)
 by_key_total o = record {
@@ -57,6 +58,21 @@ get_set [] i v p is = cc
 get_set (q ∷ ps) zero v p is = let same : q ≡ p = cc in ap (λ (r : _ × _). Some (r.0, v)) same
 get_set (q ∷ ps) (suc i) v p is = get_set ps i v p is
 
+pub key_set : {K V : Type 0} (ps : List (K × V)) (i : ℕ) (v : V) → option_map (λ p. p.0) (slice_get (set_value ps i v) i) ≡ option_map (λ p. p.0) (slice_get ps i)
+key_set [] i v = refl
+key_set (p ∷ ps) zero v = refl
+key_set (p ∷ ps) (suc i) v = key_set ps i v
+
+pub value_set : {K V : Type 0} (ps : List (K × V)) (i : ℕ) (v : V) → i < length ps → option_map (λ p. p.1) (slice_get (set_value ps i v) i) ≡ Some v
+value_set [] i v lt = absurd (omega arith)
+value_set (p ∷ ps) zero v lt = refl
+value_set (p ∷ ps) (suc i) v lt = value_set ps i v (omega arith)
+
+pub remove_set : {K V : Type 0} (ps : List (K × V)) (i : ℕ) (v : V) → remove (set_value ps i v) i ≡ remove ps i
+remove_set [] i v = refl
+remove_set (p ∷ ps) zero v = refl
+remove_set (p ∷ ps) (suc i) v = ap (λ t. p ∷ t) (remove_set ps i v)
+
 pub same_some : {A : Type 0} (x y : A) → Some x ≡ Some y → x ≡ y
 same_some x y e = cc
 
@@ -77,6 +93,33 @@ remove_ascends cmp [] zero a = tt
 remove_ascends cmp [] (suc i) a = tt
 remove_ascends cmp (x ∷ xs) zero a = a.1
 remove_ascends cmp (x ∷ xs) (suc i) a = (all_remove (λ y. cmp x y ≡ Less) xs i a.0, remove_ascends cmp xs i a.1)
+
+-- lists whose items are equal one by one
+pub all_same : {A : Type 0} (R : A → A → Type 0) → ((x y : A) → R x y → y ≡ x) → (xs ys : List A) → AllZip R xs ys → ys ≡ xs
+all_same R f [] [] all = refl
+all_same R f [] (y ∷ ys) all = absurd all
+all_same R f (x ∷ xs) [] all = absurd all
+all_same R f (x ∷ xs) (y ∷ ys) all = (λ i. f x y all.0 i ∷ all_same R f xs ys all.1 i)
+
+all_keys : {K V : Type 0} (P : K → Type 0) (ps : List (K × V)) → AllByRecursion P (map (λ p. p.0) ps) → AllByRecursion (λ p. P p.0) ps
+all_keys P [] all = tt
+all_keys P (p ∷ ps) all = (all.0, all_keys P ps all.1)
+
+-- pairs whose keys are in order are in order
+pub pairs_ascend : {K V : Type 0} (cmp : K → K → Ordering) (ps : List (K × V)) → IsStrictlySortedBy cmp (map (λ p. p.0) ps) → IsStrictlySortedBy (by_key cmp) ps
+unfolding IsStrictlySortedBy
+pairs_ascend cmp [] a = tt
+pairs_ascend cmp (p ∷ ps) a = (all_keys (λ k. cmp p.0 k ≡ Less) ps a.0, pairs_ascend cmp ps a.1)
+
+keys_all : {K V : Type 0} (P : K → Type 0) (ps : List (K × V)) → AllByRecursion (λ p. P p.0) ps → AllByRecursion P (map (λ p. p.0) ps)
+keys_all P [] all = tt
+keys_all P (p ∷ ps) all = (all.0, keys_all P ps all.1)
+
+-- and the keys of pairs in order
+pub keys_ascend : {K V : Type 0} (cmp : K → K → Ordering) (ps : List (K × V)) → IsStrictlySortedBy (by_key cmp) ps → IsStrictlySortedBy cmp (map (λ p. p.0) ps)
+unfolding IsStrictlySortedBy
+keys_ascend cmp [] a = tt
+keys_ascend cmp (p ∷ ps) a = (keys_all (λ k. cmp p.0 k ≡ Less) ps a.0, keys_ascend cmp ps a.1)
 
 module _ {K V : Type 0} (cmp : K → K → Ordering) where
   all_value : (P : K → Type 0) (ps : List (K × V)) (i : ℕ) (v : V) → AllByRecursion (λ p. P p.0) ps → AllByRecursion (λ p. P p.0) (set_value ps i v)

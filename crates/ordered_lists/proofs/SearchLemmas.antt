@@ -1,5 +1,5 @@
 -- What a search finds among items in order, and what an edit at that place does.
-use Rattle.std.proofs.Common.{◌≡◌, ℕ, zero, suc, ◌+◌, ◌-◌, ◌<◌, ◌≤◌, true, false, List, [], ◌∷◌, length, get_or, slice_get, slice_set, Option, Some, None, Result, Ok, Err, IfOk, IfErr, inl, inr, refl, sym, ap, ◌∙◌, subst, arith}
+use Rattle.std.proofs.Common.{◌≡◌, ℕ, zero, suc, ◌+◌, ◌-◌, ◌<◌, ◌≤◌, true, false, List, [], ◌∷◌, length, get_or, slice_get, slice_set, Some, None, Result, Ok, Err, IfOk, IfErr, inl, inr, refl, sym, ap, ◌∙◌, subst, arith}
 use Rattle.std.specs.declared.cmp.Ordering.{Ordering}
 use Rattle.std.specs.declared.cmp.Ordering.TheVariants.{Less, Equal, Greater}
 use Rattle.std.specs.Ordering.{is_lt, is_le, ordering_reverse}
@@ -10,7 +10,7 @@ use Rattle.std.proofs.lemmas.Bool.{cases_lt}
 use Rattle.std.proofs.lemmas.Cmp.{alike_right}
 use Rattle.std.proofs.lemmas.List.Sorted.{searchable_from_sorted}
 use Rattle.ordered_lists.specs.Lists.{find, take_out, set}
-use Rattle.ordered_lists.specs.Search.{IsCutAt, IsFound, IsMissing}
+use Rattle.ordered_lists.specs.Search.{IsFound, IsMissing}
 
 all_at : {A : Type 0} (P : A → Type 0) (xs : List A) → AllByRecursion P xs → (j : ℕ) (d : A) → j < length xs → P (get_or xs j d)
 all_at P [] all j d lt = absurd (omega arith)
@@ -95,7 +95,7 @@ module _ {A K : Type 0} (key : A → K) (cmp : K → K → Ordering) where
   }
 
   module _ (o : IsTotalOrder cmp) where
-    sorted_by : (xs : List A) → IsStrictlySortedBy (λ x y. cmp (key x) (key y)) xs → IsSortedBy (λ x y. is_lt (cmp (key x) (key y))) xs
+    pub sorted_by : (xs : List A) → IsStrictlySortedBy (λ x y. cmp (key x) (key y)) xs → IsSortedBy (λ x y. is_lt (cmp (key x) (key y))) xs
     sorted_by xs a k d low lt =
         let up = ascends (λ x y. cmp (key x) (key y)) xs a k (k + 1) d (omega arith) lt in
         ap is_lt (o.antisymm _ _ ∙ ap ordering_reverse up)

@@ -1,5 +1,5 @@
 -- A stable sort doesn't change what `sets` gives, and nor does a `dedup` that keeps the last of equal items.
-use Rattle.std.proofs.Common.{◌≡◌, ℕ, zero, suc, ◌+◌, ◌<◌, ◌≤◌, Bool, true, false, cond, not, ◌&&◌, List, [], ◌∷◌, length, get_or, if◌then◌else◌, Option, Some, None, refl, sym, ap, ◌∙◌, subst, arith}
+use Rattle.std.proofs.Common.{◌≡◌, ℕ, suc, ◌<◌, ◌≤◌, Bool, true, false, cond, not, ◌&&◌, List, [], ◌∷◌, length, get_or, slice_get, take, ◌++◌, if◌then◌else◌, Option, Some, None, refl, sym, ap, ◌∙◌, subst, arith}
 use Rattle.std.specs.Bool.{MatchBool}
 use Rattle.std.specs.declared.cmp.Ordering.{Ordering}
 use Rattle.std.specs.declared.cmp.Ordering.TheVariants.{Less, Equal, Greater}
@@ -11,9 +11,12 @@ use Rattle.std.specs.List.Retain.{DedupsFrom, DedupsAll}
 use Rattle.std.proofs.lemmas.Cmp.{alike_right, tied_back, tied_itself}
 use Rattle.std.proofs.lemmas.List.Sorted.{sorted_far, ranks_by}
 use Rattle.ordered_lists.specs.Lists.{find, set, sets}
-use Rattle.ordered_lists.proofs.PlaceLemmas.{all_map, greater_less, below_all, level_all, set_ascends}
-use Rattle.ordered_lists.proofs.MergeLemmas.{sets_ascend}
+use Rattle.ordered_lists.proofs.PlaceLemmas.{all_map, greater_less, below_all, level_all}
+use Rattle.ordered_lists.specs.Search.{IsCutAt}
+use Rattle.ordered_lists.proofs.CutLemmas.{cut_all}
+use Rattle.ordered_lists.proofs.MergeLemmas.{sets_ascend, sets_front}
 use Rattle.ordered_lists.proofs.PairLemmas.{same_some}
+use Rattle.ordered_lists.proofs.SearchLemmas.{by_lt, sorted_by}
 
 ties_reverse : (r : Ordering) → (not (is_lt r) && not (is_lt (ordering_reverse r))) ≡ is_eq (ordering_reverse r)
 ties_reverse Less = refl
@@ -149,6 +152,14 @@ module _ {A : Type 0} (cmp : A → A → Ordering) (o : IsTotalOrder cmp) where
       (λ f. rw (tied_back o _ _ e))
       (λ f. rw (tied_back o _ _ e)))
 
+  less_upto : (x y z : A) → cmp x y ≡ Less → is_gt (cmp y z) ≡ false → cmp x z ≡ Less
+  less_upto x y z e g =
+      cases (λ r. is_gt r ≡ false → cmp x z ≡ Less) (cmp y z)
+      (λ f _. o.trans x y z e f)
+      (λ f _. sym (alike_right o y z x f) ∙ e)
+      (λ f h. cc)
+      g
+
   -- what `dedup_by` leaves, where its closure keeps the later of two equal items
   module _ {S : Type 0} (R : S → A → A → Bool → S → A → A → Type 0)
       (says : (s : S) (x k : A) (b : Bool) (t : S) (x' k' : A) → R s x k b t x' k' → (b ≡ is_eq (cmp x k)) × MatchBool b (k' ≡ x) ((x' ≡ x) × (k' ≡ k))) where
@@ -175,14 +186,6 @@ module _ {A : Type 0} (cmp : A → A → Ordering) (o : IsTotalOrder cmp) where
     strictly Equal g e = cc
     strictly Greater g e = cc
 
-    less_upto : (x y z : A) → cmp x y ≡ Less → is_gt (cmp y z) ≡ false → cmp x z ≡ Less
-    less_upto x y z e g =
-        cases (λ r. is_gt r ≡ false → cmp x z ≡ Less) (cmp y z)
-        (λ f _. o.trans x y z e f)
-        (λ f _. sym (alike_right o y z x f) ∙ e)
-        (λ f h. cc)
-        g
-
     kept_ascends : (s : S) (k : A) (xs ys : List A) → DedupsFrom R s k xs ys → Rises (k ∷ xs) → IsStrictlySortedBy cmp ys
     unfolding IsStrictlySortedBy Rises
     kept_ascends s k [] ys d up = subst (IsStrictlySortedBy cmp) (sym d) (tt, tt)
@@ -201,3 +204,18 @@ module _ {A : Type 0} (cmp : A → A → Ordering) (o : IsTotalOrder cmp) where
     unfolding IsStrictlySortedBy
     deduped s [] ys d up = record { ascends = subst (IsStrictlySortedBy cmp) (sym d) tt; same = λ l. ap (sets cmp l) d }
     deduped s (x ∷ xs) ys d up = record { ascends = kept_ascends s x xs ys d (rises_sorted (x ∷ xs) up); same = λ l. kept_sets l s x xs ys d }
+
+  -- where xs is cut at the first new item, those before the cut stay in front
+  pub sets_behind : (xs new l : List A) (i : ℕ) → IsSorted cmp new → ((y : A) → slice_get new 0 ≡ Some y → IsCutAt (λ x. is_lt (cmp x y)) xs i)
+      → sets cmp (take i xs ++ l) new ≡ take i xs ++ sets cmp l new
+  unfolding Rises
+  sets_behind xs [] l i up cut = refl
+  sets_behind xs (y ∷ ys) l i up cut =
+      let upto = (rises_sorted (y ∷ ys) up).0 in
+      sets_front cmp (take i xs) l (y ∷ ys)
+      (all_map (λ x. is_lt (cmp x y) ≡ true) (λ x. AllByRecursion (λ z. cmp x z ≡ Less) (y ∷ ys))
+      (λ x less. let below = by_lt (cmp x y) less in (below, all_map (λ z. is_gt (cmp y z) ≡ false) (λ z. cmp x z ≡ Less) (λ z g. less_upto x y z below g) ys upto))
+      (take i xs) (cut_all (λ x. is_lt (cmp x y)) xs i (cut y refl)))
+
+  pub sorted_ascending : (xs : List A) → IsStrictlySortedBy cmp xs → IsSorted cmp xs
+  sorted_ascending xs a = sorted_by (λ x. x) cmp o xs a

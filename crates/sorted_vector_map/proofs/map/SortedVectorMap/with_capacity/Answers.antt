@@ -1,0 +1,6 @@
+use Rattle.std.specs.List.Sorted.{IsStrictlySortedBy}
+use Rattle.sorted_vector_map.proofs.map.SortedVectorMap.with_capacity.Goals as goal
+
+pub invariant_of-result : goal.invariant_of-result
+unfolding IsStrictlySortedBy
+invariant_of-result g c = rw c.in_ok-items.ensures.items tt

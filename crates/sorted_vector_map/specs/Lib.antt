@@ -1,0 +1,6 @@
+pub mod Content
+pub mod Lent
+pub mod Grown
+pub mod Bounds
+pub mod Hints
+pub mod Entry

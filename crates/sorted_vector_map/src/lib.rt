@@ -1,0 +1,23 @@
+//! A map whose pairs lie in the order of their keys in one vector.
+//!
+//! Look-ups are a binary search, and keys in order are put in at the end without one. Putting a pair in before others,
+//! or taking one out, moves those behind it; many new pairs at once are merged in.
+#![tactic(auto)]
+
+mod compared;
+mod entry;
+mod grow;
+mod iters;
+mod look;
+mod map;
+mod merge;
+mod places;
+mod ranges;
+mod retain;
+#[cfg(test)]
+mod tests;
+
+pub use element_core::{NoMemory, Refused};
+pub use entry::{Entry, OccupiedEntry, VacantEntry};
+pub use iters::{IntoKeys, IntoValues, Iter, Keys, Values};
+pub use map::SortedVectorMap;

@@ -1,0 +1,221 @@
+//! What the contracts mean by example, and a caller that reads a whole map.
+ghost use Rattle.std.specs.Prelude.{◌≡◌, IfOk, map};
+
+use crate::{NoMemory, SortedVectorMap};
+use std::alloc::Global;
+use std::collections::BTreeMap;
+use std::ops::Bound;
+use std::test::Fail;
+
+// Tags are equal where their numbers are.
+#[derive(Clone, Copy, Drop)]
+#[derive_where(PartialEq, Eq, PartialOrd, Ord, Debug)]
+struct Tag {
+    number: u32,
+    #[derive_where(skip(EqHashOrd))]
+    label: char,
+}
+
+fn labelled(number: u32, label: char) -> Tag {
+    Tag { number, label }
+}
+
+fn keys_of(alloc: Global, ages: &SortedVectorMap<u32, u32>) -> Result<Vec<u32>, NoMemory>
+    ensures { IfOk result (λ keys. keys.items ≡ map (λ p. p.0) ages.now.pairs) }
+{
+    let mut keys = Vec::new(alloc);
+    for key in ages.keys() {
+        keys.push(*key)?;
+    }
+    Ok(keys)
+}
+
+fn numbered(alloc: Global, low: u32, high: u32) -> Result<SortedVectorMap<u32, u32>, Fail> {
+    let mut map = SortedVectorMap::new(alloc);
+    for key in low..high {
+        map.insert(key, 0)?;
+    }
+    Ok(map)
+}
+
+#[test]
+fn insert_answers_the_old_value(rt: HostRuntime) -> Result<(), Fail> {
+    let mut map = SortedVectorMap::with_capacity(rt.alloc(), 4)?;
+    for key in [2u32, 1, 4, 3] {
+        assert_eq!(rt; map.insert(key, 'a')?, None, "at {key}");
+    }
+    assert_eq!(rt; map.insert(1, 'b')?, Some('a'));
+    assert_eq!(rt; map.len(), 4);
+    for (index, key) in [(0usize, 1u32), (1, 2), (2, 3), (3, 4)] {
+        let found = map.get_key_value_at_index(index);
+        assert!(rt; found.is_some_and(|pair| *pair.0 == key), "at {index}");
+    }
+    assert!(rt; map.get_key_value_at_index(4).is_none());
+    assert_eq!(rt; map.get(&1).copied(), Some('b'));
+    Ok(())
+}
+
+#[test]
+fn entries_put_in_what_is_missing(rt: HostRuntime) -> Result<(), Fail> {
+    let mut map = SortedVectorMap::new(rt.alloc());
+    map.insert('a', 100u32)?;
+    map.insert('b', 200)?;
+    assert_eq!(rt; *map.entry('e').or_insert(501)?, 501);
+    assert_eq!(rt; *map.entry('f').or_default()?, 0);
+    assert_eq!(rt; *map.entry('g').or_insert_with(|| 7)?, 7);
+    if let crate::Entry::Vacant(vacant) = map.entry('h') {
+        assert_eq!(rt; *vacant.insert(9)?, 9);
+    }
+    assert_eq!(rt; *map.entry('a').or_insert(1)?, 100);
+    *map.entry('a').and_modify(|value| *value = 3).or_insert(1)? = 4;
+    for (key, value) in [
+        ('a', 4),
+        ('b', 200),
+        ('e', 501),
+        ('f', 0),
+        ('g', 7),
+        ('h', 9),
+    ] {
+        assert_eq!(rt; map.get(&key).copied(), Some(value), "at {key}");
+    }
+    assert_eq!(rt; map.len(), 6);
+    Ok(())
+}
+
+#[test]
+fn split_parts_come_together(rt: HostRuntime) -> Result<(), Fail> {
+    let mut first = numbered(rt.alloc(), 1, 6)?;
+    let mut second = first.split_off(rt.alloc(), &3)?;
+    assert_eq!(rt; keys_of(rt.alloc(), &first)?.as_slice(), [1, 2].as_slice());
+    assert_eq!(rt;
+        keys_of(rt.alloc(), &second)?.as_slice(),
+        [3, 4, 5].as_slice()
+    );
+    second.extend([(6, 0), (7, 0)])?;
+    assert_eq!(rt;
+        keys_of(rt.alloc(), &second)?.as_slice(),
+        [3, 4, 5, 6, 7].as_slice()
+    );
+    second.append(&mut first)?;
+    assert_eq!(rt;
+        keys_of(rt.alloc(), &second)?.as_slice(),
+        [1, 2, 3, 4, 5, 6, 7].as_slice()
+    );
+    assert!(rt; first.is_empty());
+    Ok(())
+}
+
+#[test]
+fn last_of_equal_new_keys_wins(rt: HostRuntime) -> Result<(), Fail> {
+    let mut map = SortedVectorMap::new(rt.alloc());
+    let mut new = Vec::new(rt.alloc());
+    for pair in [(3u32, 'a'), (1, 'b'), (1, 'c')] {
+        new.push(pair)?;
+    }
+    map.extend_with_vec(new)?;
+    assert_eq!(rt; map.get(&1).copied(), Some('c'));
+    assert_eq!(rt; map.get(&3).copied(), Some('a'));
+    assert_eq!(rt; map.len(), 2);
+    Ok(())
+}
+
+#[test]
+fn each_call_says_which_key_stays(rt: HostRuntime) -> Result<(), Fail> {
+    let start = SortedVectorMap::try_from_iter(rt.alloc(), [(labelled(7, 'x'), 1u32)])?;
+    let mut inserted = start.try_clone(rt.alloc())?;
+    assert_eq!(rt; inserted.insert(labelled(7, 'y'), 2)?, Some(1));
+    let mut one = start.try_clone(rt.alloc())?;
+    one.extend([(labelled(7, 'y'), 2)])?;
+    let mut two = start.try_clone(rt.alloc())?;
+    two.extend([(labelled(7, 'y'), 2), (labelled(8, 'z'), 3)])?;
+    let mut appended = start.try_clone(rt.alloc())?;
+    let mut other = SortedVectorMap::try_from_iter(rt.alloc(), [(labelled(7, 'y'), 2)])?;
+    appended.append(&mut other)?;
+    for (map, label) in [(&inserted, 'x'), (&one, 'x'), (&two, 'y'), (&appended, 'y')] {
+        let first = map.first_key_value();
+        assert!(rt;
+            first.is_some_and(|pair| pair.0.label == label && *pair.1 == 2),
+            "{label}"
+        );
+    }
+    assert_eq!(rt; two.len(), 2);
+    Ok(())
+}
+
+#[test]
+fn each_way_of_making_makes_the_same(rt: HostRuntime) -> Result<(), Fail> {
+    let made = SortedVectorMap::try_from_iter(rt.alloc(), [(2u32, 20u32), (1, 10)])?;
+    let mut tree = BTreeMap::new(rt.alloc());
+    tree.insert(1, 10)?;
+    tree.insert(2, 20)?;
+    let mut copied = SortedVectorMap::new(rt.alloc());
+    copied.extend_copied(&tree)?;
+    assert!(rt; copied == made);
+    let moved = SortedVectorMap::try_from_btree_map(rt.alloc(), tree)?;
+    assert!(rt; moved == made);
+    assert!(rt; made.try_clone(rt.alloc())? == made);
+    assert_eq!(rt; made.into_inner().as_slice(), [(1, 10), (2, 20)].as_slice());
+    Ok(())
+}
+
+#[test]
+fn ranges_hold_the_keys_within(rt: HostRuntime) -> Result<(), Fail> {
+    let mut map = SortedVectorMap::new(rt.alloc());
+    for half in 0..20u32 {
+        map.insert(half * 2, 0u32)?;
+    }
+    let mut sum = 0u64;
+    for (key, _) in map.range(Bound::Included(&5), Bound::Included(&14)) {
+        sum = sum.wrapping_mul(100).wrapping_add(u64::from(*key));
+    }
+    assert_eq!(rt; sum, 608_101_214);
+    let above = map.range(Bound::Excluded(&6), Bound::Included(&60));
+    assert_eq!(rt; above.len(), 16);
+    let first = map.range(Bound::Excluded(&6), Bound::Included(&60)).next();
+    assert!(rt; first.is_some_and(|pair| *pair.0 == 8));
+    let below = map.range(Bound::Unbounded, Bound::Excluded(&7));
+    assert_eq!(rt; below.len(), 4);
+    Ok(())
+}
+
+#[test]
+fn iterators_meet_in_the_middle(rt: HostRuntime) -> Result<(), Fail> {
+    let map = numbered(rt.alloc(), 1, 6)?;
+    let mut keys = map.keys();
+    assert_eq!(rt; keys.next().copied(), Some(1));
+    assert_eq!(rt; keys.next_back().copied(), Some(5));
+    assert_eq!(rt; keys.size_hint(), (3, Some(3)));
+    assert_eq!(rt; keys.next().copied(), Some(2));
+    assert_eq!(rt; keys.next_back().copied(), Some(4));
+    assert_eq!(rt; keys.next_back().copied(), Some(3));
+    assert_eq!(rt; keys.next(), None);
+    assert_eq!(rt; keys.next_back(), None);
+    let mut owned = map.into_keys();
+    assert_eq!(rt; owned.next(), Some(1));
+    assert_eq!(rt; owned.next_back(), Some(5));
+    assert_eq!(rt; owned.next(), Some(2));
+    assert_eq!(rt; owned.size_hint(), (2, Some(2)));
+    Ok(())
+}
+
+#[test]
+fn pairs_are_taken_out(rt: HostRuntime) -> Result<(), Fail> {
+    let mut map = numbered(rt.alloc(), 0, 8)?;
+    map.retain(|key, value| {
+        *value = *key;
+        key % 2 == 1
+    });
+    assert_eq!(rt;
+        keys_of(rt.alloc(), &map)?.as_slice(),
+        [1, 3, 5, 7].as_slice()
+    );
+    assert_eq!(rt; map.remove(&3), Some(3));
+    assert_eq!(rt; map.remove(&4), None);
+    assert_eq!(rt; map.pop_last(), Some((7, 7)));
+    let first = map.first_entry().map(|entry| entry.remove_entry());
+    assert_eq!(rt; first, Some((1, 1)));
+    assert_eq!(rt; map.last_key_value().map(|pair| *pair.0), Some(5));
+    map.clear();
+    assert!(rt; map.last_entry().is_none());
+    Ok(())
+}
