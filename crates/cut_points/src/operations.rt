@@ -7,7 +7,7 @@ ghost use Rattle.number_line.specs.Ranges.{holds, IsCanonical};
 ghost use Rattle.ordered_lists.specs.Lists.{symmetric_difference};
 ghost use Rattle.cut_points.specs.Cuts.{xor};
 
-use crate::convert::{cuts, set_of};
+use crate::convert::{cut_list, set_of};
 use element_core::{Element, NoMemory};
 use range_map::RangeSet;
 use sorted_iter::{AssumeSortedByItemExt, SortedIterator};
@@ -40,13 +40,9 @@ pub fn symmetric_difference<T: Element>(
 {
     left.ranges();
     right.ranges();
-    let left_cuts = cuts(alloc, left)?;
-    let right_cuts = cuts(alloc, right)?;
-    let both = in_just_one(
-        alloc,
-        left_cuts.iter().as_slice(),
-        right_cuts.iter().as_slice(),
-    )?;
+    let left_cuts = cut_list(alloc, left)?;
+    let right_cuts = cut_list(alloc, right)?;
+    let both = in_just_one(alloc, &left_cuts, &right_cuts)?;
     let set = set_of(alloc, &both)?;
     Ok(set)
 }
