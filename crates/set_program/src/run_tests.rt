@@ -37,6 +37,8 @@ fn answers(rt: HostRuntime) -> Result<(), Fail> {
     let table = [
         ("a: 1..=5 4..=8 |\n", "a: 1..=8\n"),
         ("a: 1..=3 4..=6 |\n", "a: 1..=6\n"),
+        ("a: 1..=5 4..=8 ^\n", "a: 1..=3 6..=8 |\n"),
+        ("a: 3 3 -\n", "a: empty\n"),
         (
             "a: 9223372036854775807 -9223372036854775808 |\n",
             "a: -9223372036854775808..=-9223372036854775808 9223372036854775807..=9223372036854775807 |\n",
@@ -139,7 +141,8 @@ fn comment_of_65_537_bytes_is_too_long(rt: HostRuntime) -> Result<(), Fail> {
 #[test]
 fn third_read_fails(rt: HostRuntime) -> Result<(), Fail> {
     let alloc = rt.alloc();
-    let mut source = MemorySource::new(FIRST.to_vec(alloc)?, 4, vec![in alloc; 3u64]?);
+    let text = b"a: 1..=5 4..=8 ^\n".as_slice();
+    let mut source = MemorySource::new(text.to_vec(alloc)?, 4, vec![in alloc; 3u64]?);
     let mut sink = good_sink(alloc)?;
     let status = run(alloc, &[], &mut source, &mut sink);
     assert_eq!(rt; status, Status::ReadFault);
