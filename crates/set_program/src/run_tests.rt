@@ -103,6 +103,16 @@ fn first_faults(rt: HostRuntime) -> Result<(), Fail> {
             AlgebraError::NotOne { line: 1 },
             "line 1: not one set\n",
         ),
+        (
+            "a: 1..=3 4..=6 | 3\n",
+            AlgebraError::NotOne { line: 1 },
+            "line 1: not one set\n",
+        ),
+        (
+            "a: 5..=2\n",
+            AlgebraError::Reversed { line: 1, word: 1 },
+            "line 1, word 1: reversed range\n",
+        ),
     ];
     for (text, fault, line) in table {
         let mut source = PlainSource::new(text.as_bytes().to_vec(alloc)?);
