@@ -3,7 +3,7 @@ use Rattle.std.specs.List.Sorted.{IsStrictlySortedBy}
 use Rattle.ordered_lists.specs.Lists.{by_key}
 use Rattle.ordered_lists.proofs.PairLemmas.{keys_ascend}
 use Rattle.sorted_vector_map.specs.Content.{Content}
-use Rattle.sorted_vector_map.proofs.RunLemmas.{gives_in_order, gives_in_reverse}
+use Rattle.std_collections.proofs.IterRuns.{gives_in_order, gives_in_reverse}
 use Rattle.sorted_vector_map.proofs.map.SortedVectorMap.into_keys.Goals as goal
 
 pub returns-clause-ascending : goal.returns-clause-ascending

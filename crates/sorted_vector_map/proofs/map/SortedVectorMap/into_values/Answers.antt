@@ -1,4 +1,4 @@
-use Rattle.sorted_vector_map.proofs.RunLemmas.{gives_in_order, gives_in_reverse}
+use Rattle.std_collections.proofs.IterRuns.{gives_in_order, gives_in_reverse}
 use Rattle.sorted_vector_map.proofs.map.SortedVectorMap.into_values.Goals as goal
 
 pub returns-clause-runs : goal.returns-clause-runs

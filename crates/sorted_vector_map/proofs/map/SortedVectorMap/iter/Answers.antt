@@ -1,5 +1,5 @@
 use Rattle.std.specs.Map.Iter.{deref_pair}
-use Rattle.sorted_vector_map.proofs.RunLemmas.{shows_in_order, shows_in_reverse}
+use Rattle.std_collections.proofs.IterRuns.{shows_in_order, shows_in_reverse}
 use Rattle.sorted_vector_map.proofs.map.SortedVectorMap.iter.Goals as goal
 
 pub returns-clause-runs : goal.returns-clause-runs

@@ -4,7 +4,7 @@ use Rattle.ordered_lists.specs.Lists.{by_key}
 use Rattle.ordered_lists.proofs.PairLemmas.{keys_ascend}
 use Rattle.sorted_vector_map.specs.Content.{Content}
 use Rattle.std.specs.Map.Iter.{deref}
-use Rattle.sorted_vector_map.proofs.RunLemmas.{shows_in_order, shows_in_reverse}
+use Rattle.std_collections.proofs.IterRuns.{shows_in_order, shows_in_reverse}
 use Rattle.sorted_vector_map.proofs.map.SortedVectorMap.keys.Goals as goal
 
 pub returns-clause-ascending : goal.returns-clause-ascending
