@@ -1,3 +1,4 @@
 pub mod Ranges
 pub mod Segments
+pub mod Valued
 pub mod Laws

@@ -2,3 +2,4 @@ pub mod Range
 pub mod Set
 pub mod SetLaws
 pub mod Merging
+pub mod Valued
