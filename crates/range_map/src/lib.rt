@@ -8,6 +8,7 @@ mod from_iter;
 mod from_iter_tests;
 mod iter;
 pub mod laws;
+mod map;
 mod merging;
 mod range;
 mod set;
@@ -15,5 +16,6 @@ mod set;
 mod tests;
 
 pub use iter::RangeIter;
+pub use map::RangeMap;
 pub use range::Range;
 pub use set::RangeSet;
