@@ -1,4 +1,5 @@
 pub mod Ranges
 pub mod Segments
 pub mod Valued
+pub mod Kept
 pub mod Laws

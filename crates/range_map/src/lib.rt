@@ -9,6 +9,8 @@ mod from_iter_tests;
 mod iter;
 pub mod laws;
 mod map;
+mod map_compared;
+mod map_error;
 mod merging;
 mod range;
 mod set;
@@ -17,5 +19,6 @@ mod tests;
 
 pub use iter::RangeIter;
 pub use map::RangeMap;
+pub use map_error::{OverlapError, TryFromIterError};
 pub use range::Range;
 pub use set::RangeSet;

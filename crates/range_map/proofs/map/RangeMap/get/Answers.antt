@@ -1,4 +1,4 @@
-use Rattle.std.proofs.Common.{rules, ◌≡◌, ◌∙◌, ap, sym, Some}
+use Rattle.std.proofs.Common.{rules, ◌∙◌, ap, sym, Some}
 use Rattle.std.proofs.lemmas.Fn.{always_returns_same}
 use Rattle.range_map.specs.Range.{in_numbers, place_beside}
 use Rattle.range_map.proofs.SearchLemmas.{found_value, missing_value}
