@@ -96,3 +96,8 @@ pub record IsAccount {V : Type 0} (same : V → V → Bool) (given kept discarde
   -- where none of them has a value, the map has none
   pub nothing_else : (x : ℤ) → value_at taken x ≡ None → value_at kept x ≡ None
   pub others : AllByRecursion (HasAnother same kept) discarded
+
+-- `kept` and `discarded` are what becomes of the given pairs, by the three rules, and account for all of them
+pub record IsDivided {V : Type 0} (same : V → V → Bool) (given kept discarded : List ((ℤ × ℤ) × V)) : Type 0 where
+  pub rules : kept_and_discarded same (placed given) ≡ record { kept = kept; discarded = discarded }
+  pub account : IsAccount same given kept discarded

@@ -2,4 +2,5 @@ pub mod Ranges
 pub mod Segments
 pub mod Valued
 pub mod Kept
+pub mod ValuedLaws
 pub mod Laws

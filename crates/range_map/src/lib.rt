@@ -1,4 +1,5 @@
-//! Inclusive ranges of a numbered type, and sets of its values kept as ranges.
+//! Inclusive ranges of a numbered type, sets of its values kept as ranges, and maps from them kept as ranges with a
+//! value each.
 #![tactic(auto)]
 
 #[cfg(test)]
@@ -11,6 +12,9 @@ pub mod laws;
 mod map;
 mod map_compared;
 mod map_error;
+mod map_from_iter;
+#[cfg(test)]
+mod map_tests;
 mod merging;
 mod range;
 mod set;
