@@ -5,3 +5,4 @@ pub mod CommonLemmas
 pub mod SearchLemmas
 pub mod EqualityLemmas
 pub mod JoinLemmas
+pub mod DividedLemmas

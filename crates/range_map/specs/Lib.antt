@@ -3,3 +3,5 @@ pub mod Set
 pub mod SetLaws
 pub mod Merging
 pub mod Valued
+pub mod MapLaws
+pub mod MapError

@@ -1,4 +1,5 @@
-//! Inclusive ranges of a numbered type, and sets of its values kept as ranges.
+//! Inclusive ranges of a numbered type, sets of its values kept as ranges, and maps from them kept as ranges with a
+//! value each.
 #![tactic(auto)]
 
 #[cfg(test)]
@@ -8,6 +9,12 @@ mod from_iter;
 mod from_iter_tests;
 mod iter;
 pub mod laws;
+mod map;
+mod map_compared;
+mod map_error;
+mod map_from_iter;
+#[cfg(test)]
+mod map_tests;
 mod merging;
 mod range;
 mod set;
@@ -15,5 +22,7 @@ mod set;
 mod tests;
 
 pub use iter::RangeIter;
+pub use map::RangeMap;
+pub use map_error::{OverlapError, TryFromIterError};
 pub use range::Range;
 pub use set::RangeSet;
