@@ -1,21 +1,25 @@
 -- Where the names of lines stand last, and what is found there.
 use Rattle.std.proofs.Common.{◌≡◌, ℕ, zero, suc, ◌+◌, ◌<◌, ◌≤◌, Bool, true, false, List, [], ◌∷◌, ◌++◌, length, slice_get, get_or, Option, Some, None, is_some, refl, sym, ap, ◌∙◌, arith}
-use Rattle.std.specs.Prelude.{ℤ, if◌then◌else◌, fold, bytes_eq, option_map, ◌||◌}
-use Rattle.std.specs.List.{list_any}
+use Rattle.std.specs.Prelude.{ℤ, if◌then◌else◌, fold, bytes_eq, option_map, map, ◌||◌}
+use Rattle.std.specs.List.{list_any, AllByRecursion}
 use Rattle.std.specs.declared.cmp.Ordering.{Ordering}
 use Rattle.std.specs.declared.cmp.Ordering.TheVariants.{Less, Equal, Greater}
 use Rattle.std.specs.Cmp.{unsigned_ties}
-use Rattle.std.specs.Cmp.Lexicographic.{slice_cmp, lists_ties}
-use Rattle.std.specs.Ordering.{match_ordering, nat_cmp, is_eq}
+use Rattle.std.specs.Cmp.Lexicographic.{lists_ties, nat_list_cmp_total}
+use Rattle.std.specs.Ordering.{match_ordering, nat_cmp, is_eq, ordering_reverse}
+use Rattle.std.specs.List.Sorted.{IsStrictlySortedBy}
 use Rattle.std.proofs.lemmas.List.{map-append}
+use Rattle.std.proofs.lemmas.List.Sums.{fold-append}
 use Rattle.std.proofs.lemmas.Slice.Eq.{bytes_eq-Decides}
 use Rattle.number_line.specs.Ranges.{holds}
-use Rattle.ordered_lists.specs.Lists.{to_key, find, put}
+use Rattle.ordered_lists.specs.Lists.{to_key, find, put, add}
+use Rattle.ordered_lists.proofs.PlaceLemmas.{greater_less, equal_back, below_all, level_all}
+use Rattle.ordered_lists.proofs.WalkLemmas.{ascends-add}
 use Rattle.ordered_lists.proofs.SearchLemmas.{get_is}
 use Rattle.set_document.specs.Truth.{at, latest}
 use Rattle.set_document.specs.Words.{letters}
 use Rattle.set_document.specs.Lines.{lines_of, names_of}
-use Rattle.set_document.specs.Names.{last_place, name_cmp, IsIndex}
+use Rattle.set_document.specs.Names.{last_place, bytes_cmp, name_cmp, distinct, IsIndex}
 use Rattle.set_document.specs.declared.named_lines.Line.{Line}
 use Rattle.set_document.specs.declared.word.Name.{Name}
 
@@ -119,12 +123,94 @@ found_once_put (p ∷ pairs) k v n = go (found_once_put pairs k v n) (name_cmp p
         greater true = refl
         greater false = refl
 
+-- ---- the names in order
+
+-- a name with what a look-up gives, and a pair of a name and a place, as bytes
+abbrev with_place : (List ℕ → Option ℕ) → List ℕ → List ℕ × Option ℕ
+with_place last n = (n, last n)
+
+abbrev in_bytes : Name × ℕ → List ℕ × Option ℕ
+in_bytes p = (letters p.0, Some p.1)
+
+-- names that aren't the one put keep their places
+others_stay : (k : List ℕ) (v : ℕ) (last next : List ℕ → Option ℕ) → ((n : List ℕ) → next n ≡ (if bytes_eq k n then Some v else last n))
+    → (ds : List (List ℕ)) → AllByRecursion (λ d. bytes_cmp k d ≡ Less) ds → map (with_place last) ds ≡ map (with_place next) ds
+others_stay k v last next h [] all = refl
+others_stay k v last next h (d ∷ ds) all =
+    let apart : bytes_eq k d ≡ false = lists_ties nat_cmp unsigned_ties k d ∙ ap is_eq all.0 in
+    let one : last d ≡ next d = sym (h d ∙ ap (λ b. if b then Some v else last d) apart) in
+    let rest : map (with_place last) ds ≡ map (with_place next) ds = others_stay k v last next h ds all.1 in
+    λ i. (d, one i) ∷ rest i
+
+-- a name put among names in order, and its place
+put_in_order : (k : Name) (v : ℕ) (last next : List ℕ → Option ℕ) → ((n : List ℕ) → next n ≡ (if bytes_eq (letters k) n then Some v else last n))
+    → (pairs : List (Name × ℕ)) (ds : List (List ℕ)) → IsStrictlySortedBy bytes_cmp ds
+    → map in_bytes pairs ≡ map (with_place last) ds
+    → map in_bytes (put name_cmp pairs k v) ≡ map (with_place next) (add bytes_cmp ds (letters k))
+unfolding IsStrictlySortedBy
+put_in_order k v last next h [] [] sorted e =
+    let itself = (bytes_eq-Decides (letters k) (letters k)).1 refl in
+    let here : next (letters k) ≡ Some v = h (letters k) ∙ ap (λ b. if b then Some v else last (letters k)) itself in
+    λ i. (letters k, sym here i) ∷ []
+put_in_order k v last next h [] (d ∷ ds) sorted e = absurd cc
+put_in_order k v last next h (p ∷ pairs) [] sorted e = absurd cc
+put_in_order k v last next h (p ∷ pairs) (d ∷ ds) sorted e =
+    let head : in_bytes p ≡ with_place last d = cc in
+    let first : letters p.0 ≡ d = ap (λ (r : List ℕ × Option ℕ). r.0) head in
+    let place : Some p.1 ≡ last d = ap (λ (r : List ℕ × Option ℕ). r.1) head in
+    let rest : map in_bytes pairs ≡ map (with_place last) ds = cc in
+    go first place rest (put_in_order k v last next h pairs ds sorted.1 rest) (name_cmp p.0 k) refl
+  where
+    go : letters p.0 ≡ d → Some p.1 ≡ last d → map in_bytes pairs ≡ map (with_place last) ds
+        → map in_bytes (put name_cmp pairs k v) ≡ map (with_place next) (add bytes_cmp ds (letters k))
+        → (r : Ordering) → name_cmp p.0 k ≡ r
+        → map in_bytes (match_ordering r (p ∷ put name_cmp pairs k v) ((p.0, v) ∷ pairs) ((k, v) ∷ p ∷ pairs))
+        ≡ map (with_place next) (match_ordering (bytes_cmp d (letters k)) (d ∷ add bytes_cmp ds (letters k)) (d ∷ ds) (letters k ∷ d ∷ ds))
+    go first place rest later Less r =
+        let less : bytes_cmp d (letters k) ≡ Less = ap (λ l. bytes_cmp l (letters k)) (sym first) ∙ r in
+        let greater : bytes_cmp (letters k) d ≡ Greater = nat_list_cmp_total.antisymm (letters k) d ∙ ap ordering_reverse less in
+        let apart : bytes_eq (letters k) d ≡ false = lists_ties nat_cmp unsigned_ties (letters k) d ∙ ap is_eq greater in
+        let here : Some p.1 ≡ next d = place ∙ sym (h d ∙ ap (λ b. if b then Some v else last d) apart) in
+        rw less (λ i. (first i, here i) ∷ later i)
+    go first place rest later Equal r =
+        let level : bytes_cmp d (letters k) ≡ Equal = ap (λ l. bytes_cmp l (letters k)) (sym first) ∙ r in
+        let back : bytes_cmp (letters k) d ≡ Equal = equal_back nat_list_cmp_total d (letters k) level in
+        let one : bytes_eq (letters k) d ≡ true = lists_ties nat_cmp unsigned_ties (letters k) d ∙ ap is_eq back in
+        let here : Some v ≡ next d = sym (h d ∙ ap (λ b. if b then Some v else last d) one) in
+        let above = level_all nat_list_cmp_total (letters k) d ds back sorted.0 in
+        let stay = rest ∙ others_stay (letters k) v last next h ds above in
+        rw level (λ i. (first i, here i) ∷ stay i)
+    go first place rest later Greater r =
+        let greater : bytes_cmp d (letters k) ≡ Greater = ap (λ l. bytes_cmp l (letters k)) (sym first) ∙ r in
+        let less : bytes_cmp (letters k) d ≡ Less = greater_less nat_list_cmp_total d (letters k) greater in
+        let itself = (bytes_eq-Decides (letters k) (letters k)).1 refl in
+        let here : Some v ≡ next (letters k) = sym (h (letters k) ∙ ap (λ b. if b then Some v else last (letters k)) itself) in
+        let above : AllByRecursion (λ x. bytes_cmp (letters k) x ≡ Less) (d ∷ ds) = (less, below_all nat_list_cmp_total (letters k) d ds less sorted.0) in
+        let both : in_bytes p ∷ map in_bytes pairs ≡ with_place last d ∷ map (with_place last) ds = λ i. (first i, place i) ∷ rest i in
+        let stay = both ∙ others_stay (letters k) v last next h (d ∷ ds) above in
+        rw greater (λ i. (letters k, here i) ∷ stay i)
+
+-- the distinct names of one more
+distinct_behind : (names : List (List ℕ)) (n : List ℕ) → distinct (names ++ n ∷ []) ≡ add bytes_cmp (distinct names) n
+distinct_behind names n = fold-append (add bytes_cmp) [] names (n ∷ [])
+
+ascends_from : (ds names : List (List ℕ)) → IsStrictlySortedBy bytes_cmp ds → IsStrictlySortedBy bytes_cmp (fold (add bytes_cmp) ds names)
+ascends_from ds [] h = h
+ascends_from ds (n ∷ names) h = ascends_from (add bytes_cmp ds n) names (ascends-add nat_list_cmp_total ds n h)
+
+pub distinct_ascends : (names : List (List ℕ)) → IsStrictlySortedBy bytes_cmp (distinct names)
+unfolding IsStrictlySortedBy
+distinct_ascends names = ascends_from [] names tt
+
 -- the index of one more name
 pub indexed_behind : (names : List (List ℕ)) (pairs : List (Name × ℕ)) (k : Name) → IsIndex names pairs → IsIndex (names ++ letters k ∷ []) (put name_cmp pairs k (length names))
 indexed_behind names pairs k h = record {
   finds = λ n.
       found_once_put pairs k (length names) n ∙ (ap (λ r. if bytes_eq (letters k) (letters n) then Some (length names) else r) (h.finds n)
       ∙ sym (last_place_behind names (letters k) (letters n)));
+  lists =
+      put_in_order k (length names) (last_place names) (last_place (names ++ letters k ∷ [])) (last_place_behind names (letters k)) pairs (distinct names) (distinct_ascends names) h.lists
+      ∙ ap (map (with_place (last_place (names ++ letters k ∷ [])))) (sym (distinct_behind names (letters k)));
 }
 
 -- ---- what a look-up finds
