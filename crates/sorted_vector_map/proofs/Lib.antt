@@ -1,1 +1,3 @@
 pub mod RetainLemmas
+pub mod ComingLemmas
+pub mod EntryLemmas

@@ -3,4 +3,5 @@ pub mod Lent
 pub mod Grown
 pub mod Bounds
 pub mod Hints
+pub mod Coming
 pub mod Entry
