@@ -4,3 +4,7 @@ pub mod Grown
 pub mod Bounds
 pub mod Hints
 pub mod Entry
+pub mod Slots
+pub mod Loans
+pub mod Lending
+pub mod Refilled
