@@ -1,1 +1,3 @@
 pub mod RetainLemmas
+pub mod LendForm
+pub mod LendCells
