@@ -4,3 +4,4 @@ pub mod LendForm
 pub mod LendCells
 pub mod LendColumns
 pub mod LendMap
+pub mod LendingRuns

@@ -1,8 +1,9 @@
 -- What a contract sees of an iterator that lends values for writing.
-use Rattle.std.specs.Prelude.{List, map}
-use Rattle.std.specs.Borrow.{Bor, MutBor}
+use Rattle.std.specs.Prelude.{List}
+use Rattle.std.specs.Borrow.{MutBor}
 use Rattle.std.specs.declared.option.Option.{Option}
-use Rattle.std.specs.Map.Iter.{TakesFirst, TakesLast, deref_pair_mut}
+use Rattle.std.specs.Iterator.Runs.{EveryRun, ItemsMapTo, ItemsMapToReversed}
+use Rattle.std.specs.Map.Iter.{TakesFirst, TakesLast}
 use base.Fml.{GName}
 
 -- the items still to come, with their values, and the name of the loan that ends at the values written
@@ -22,3 +23,11 @@ module _ {A X : Type 0} (shows : A → X) where
   -- the same of `next_back` and the last item
   abbrev pub LendsLastOf : Lending X → Option A → Lending X → Type 0
   LendsLastOf s r t = TakesLast shows s.rest r t.rest
+
+  -- each run of `next` shows the items still to come, in order
+  abbrev pub LendsInOrder : Type 0
+  LendsInOrder = EveryRun LendsFirstOf (λ run. ItemsMapTo run shows run.from.rest)
+
+  -- the same of `next_back`, in reverse
+  abbrev pub LendsInReverse : Type 0
+  LendsInReverse = EveryRun LendsLastOf (λ run. ItemsMapToReversed run shows run.from.rest)

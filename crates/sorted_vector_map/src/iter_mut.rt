@@ -4,11 +4,13 @@ ghost use Rattle.std.specs.Prelude.{◌≡◌, ◌^◌, ◌<◌, ◌&&◌, not, 
 ghost use Rattle.std.specs.Iterator.{at_most, UpTo};
 ghost use Rattle.std.specs.Iterator.SizeHint.{IsWithinCount};
 ghost use Rattle.std.specs.List.{filter};
+ghost use Rattle.std.specs.List.Sorted.{IsStrictlySortedBy};
 ghost use Rattle.std.specs.Map.Iter.{deref_pair_mut};
 ghost use Rattle.std.specs.Range.Bound.{bound_map};
+ghost use Rattle.ordered_lists.specs.Lists.{by_key};
 ghost use Rattle.sorted_vector_map.specs.Bounds.{is_before, is_within, AreInOrder};
 ghost use Rattle.sorted_vector_map.specs.Hints.{exactly};
-ghost use Rattle.sorted_vector_map.specs.Lending.{LendsFirstOf, LendsLastOf, deref_mut};
+ghost use Rattle.sorted_vector_map.specs.Lending.{LendsFirstOf, LendsLastOf, LendsInOrder, LendsInReverse, deref_mut};
 ghost use Rattle.sorted_vector_map.specs.Refilled.{lends_values, KeepsKeys, KeepsLength};
 ghost use Rattle.sorted_vector_map.specs.Slots.{pair_of, cell_of};
 
@@ -33,6 +35,10 @@ impl<K: Ord, V> SortedVectorMap<K, V> {
         ensures keys { KeepsKeys self.old }
         ensures len { KeepsLength self.old }
         ensures rest { result.rest ≡ self.old.pairs }
+        ensures ascending { IsStrictlySortedBy (by_key K.cmp) self.old.pairs }
+        ensures fits { length result.rest < 2 ^ 64 }
+        ensures runs { LendsInOrder (deref_pair_mut {K = K} {X = V}) }
+        ensures runs_back { LendsInReverse (deref_pair_mut {K = K} {X = V}) }
     {
         let (slots, lent) = self.lend();
         IterMut::new(slots, lent)
@@ -44,6 +50,8 @@ impl<K: Ord, V> SortedVectorMap<K, V> {
         ensures keys { KeepsKeys self.old }
         ensures len { KeepsLength self.old }
         ensures rest { result.rest ≡ map (λ p. p.1) self.old.pairs }
+        ensures runs { LendsInOrder (deref_mut {V = V}) }
+        ensures runs_back { LendsInReverse (deref_mut {V = V}) }
     {
         ValuesMut {
             pairs: self.iter_mut(),
@@ -73,11 +81,11 @@ impl<'a, K: Ord, V> IntoIterator for &'a mut SortedVectorMap<K, V> {
 
     type IntoIter = IterMut<'a, K, V>;
 
-    ghost into_iter_gives = { λ m r. r.rest ≡ m.now.pairs };
+    ghost into_iter_gives = { λ m r. (r.rest ≡ m.now.pairs) × (length r.rest < 2 ^ 64) × LendsInOrder (deref_pair_mut {K = K} {X = V}) × LendsInReverse (deref_pair_mut {K = K} {X = V}) × IsStrictlySortedBy (by_key K.cmp) m.now.pairs };
 
     fn into_iter(self) -> IterMut<'a, K, V>
         ensures* writes_back { sem 𝓛 (lends_values K.row V.row K.Ord self.entry result.loan) }
-        ensures into_iter_gives { result.rest ≡ self.old.pairs }
+        ensures into_iter_gives { (result.rest ≡ self.old.pairs) × (length result.rest < 2 ^ 64) × LendsInOrder (deref_pair_mut {K = K} {X = V}) × LendsInReverse (deref_pair_mut {K = K} {X = V}) × IsStrictlySortedBy (by_key K.cmp) self.old.pairs }
         ensures keys { KeepsKeys self.old }
         ensures len { KeepsLength self.old }
     {

@@ -56,6 +56,7 @@ use Rattle.std_heap.specs.contracts.Global as G-type
 use Rattle.std.proofs.alloc.Global.TheLaws as G-laws
 use Rattle.std.proofs.alloc.Calls.{token}
 use Rattle.std.specs.Allocator.{block_with_items}
+use Rattle.std.specs.List.Sorted.{IsStrictlySortedBy}
 use Rattle.std.specs.Mem.{type_size}
 use Rattle.std.specs.Vec.Ownership.{has_block, owns_if, vec_owns}
 use Rattle.std.proofs.VecSteps.AsMutSlice.{Spare, rows_out}
@@ -64,6 +65,7 @@ use Rattle.std.proofs.VecSteps.Opens.{not_live}
 use Rattle.std.proofs.VecSteps.Shapes.{after as after_code}
 use Rattle.std.proofs.raw_atomic.Walks.{proved}
 use Rattle.std_collections.proofs.TreeMemory.Lodging.{two_made}
+use Rattle.ordered_lists.specs.Lists.{by_key}
 use Rattle.sorted_vector_map.specs.Content.{Content}
 use Rattle.sorted_vector_map.specs.Loans.{lie_at_each, lends_cells}
 use Rattle.sorted_vector_map.specs.Refilled.{refilled}
@@ -130,6 +132,7 @@ module _ (E : Two) (O : OrderOf (KD E)) {M : Type 1} {𝓤 : Ura M} (𝓛 : Logi
           open_ref ! tt (mem (MapR E O)) {x = d} {b = rb} {o = ro} $
           use1 𝓛 (some (λ (x : (m : (InsideR E O).Denot) × ((view E O m ≡ d) × Good E O m)). ‵ (part_at (InsideR E O) full_share x.0 rb ro))) (plain_out (MapR E O) (InsideR E O) Owns 𝓛 full_share d rb ro) $ pick ! (λ x.
           let h : el_d (pair_el E O) = x.0.items in let seen = x.1.0 in let good = x.1.1 in let ps : Pairs E = h.items in
+          let same : ps ≡ d.pairs = ap (λ m. m.pairs) seen in let Ascends : Pairs E → Type 0 = IsStrictlySortedBy (by_key O.ord.cmp) in
           let words : (WordsR E O).Denot = (h.ptr, (h.len, (h.cap, (h.alloc, tt)))) in
           use1 𝓛 (‵ (part_at (VecR E O) full_share h rb vec) ⊛ raw (MapBack E O 𝓛 rb ro)) (vec_of_map E O 𝓛 rb ro x.0) $ split ! $
           use1 𝓛 (‵ (part_at (WordsR E O) full_share words rb vec) ⊛ ‵ (vec_owns (token global h.alloc) (R (pair_el E O)) h.ptr h.len h.cap ps)) (owning_laws.part_out 𝓛 (owning (pair_el E O)) full_share h rb vec) $ split ! $
@@ -183,8 +186,9 @@ module _ (E : Two) (O : OrderOf (KD E)) {M : Type 1} {𝓤 : Ura M} (𝓛 : Logi
           -- [the pair; the token; what follows; the other tokens]
           suffices ! _ (ends_at 𝓛 (end E O) (stayed E O) spec bound (vstruct (vcons (vptr rb vec) (vcons no_bytes vnil))) (top, lent) (tt, tt) (tt, tt)) $
           move ! (1 ∷ 3 ∷ []) $ join ! $ nothing ! $ nothing ! $ fjoin ! $ move ! (1 ∷ 0 ∷ 2 ∷ []) $ group ! 3 $
-          use0 𝓛 (raw (fact 𝓤 (map cell_of slots ≡ map cell_of slots))) (fact_i 𝓤 (map cell_of slots ≡ map cell_of slots) (emp 𝓤) refl) $
-          use0 𝓛 (raw (fact 𝓤 (map pair_of slots ≡ d.pairs))) (fact_i 𝓤 (map pair_of slots ≡ d.pairs) (emp 𝓤) (pairs_of_slots E ps b o ∙ ap (λ m. m.pairs) seen)) $ join ! $
+          use0 𝓛 (raw (fact 𝓤 (Ascends d.pairs))) (fact_i 𝓤 (Ascends d.pairs) (emp 𝓤) (subst Ascends same good)) $
+          use0 𝓛 (raw (fact 𝓤 (map cell_of slots ≡ map cell_of slots))) (fact_i 𝓤 (map cell_of slots ≡ map cell_of slots) (emp 𝓤) refl) $ join ! $
+          use0 𝓛 (raw (fact 𝓤 (map pair_of slots ≡ d.pairs))) (fact_i 𝓤 (map pair_of slots ≡ d.pairs) (emp 𝓤) (pairs_of_slots E ps b o ∙ same)) $ join ! $
           move ! (1 ∷ 2 ∷ 0 ∷ []) $ done !))))))
 
 pub lend_spec : {M : Type 1} → stated.statement M
