@@ -5,3 +5,7 @@ pub mod Bounds
 pub mod Hints
 pub mod Coming
 pub mod Entry
+pub mod Slots
+pub mod Loans
+pub mod Lending
+pub mod Refilled
