@@ -1,4 +1,6 @@
-//! What is written through the iterators that lend values stands in the map.
+//! What is written through the iterators that lend values stands in the map, and a caller that keeps its keys.
+ghost use Rattle.std.specs.Prelude.{◌≡◌, length, map};
+
 use crate::SortedVectorMap;
 use std::alloc::Global;
 use std::ops::Bound;
@@ -13,6 +15,15 @@ fn even_keys(alloc: Global) -> Result<SortedVectorMap<u32, u32>, Fail> {
     Ok(map)
 }
 
+fn set_all(prices: &mut SortedVectorMap<u32, u32>, price: u32)
+    ensures keys { map (λ p. p.0) prices.new.pairs ≡ map (λ p. p.0) prices.old.pairs }
+    ensures len { length prices.new.pairs ≡ length prices.old.pairs }
+{
+    for (_, value) in prices.iter_mut() {
+        *value = price;
+    }
+}
+
 #[test]
 fn every_value_is_doubled(rt: HostRuntime) -> Result<(), Fail> {
     let mut map = even_keys(rt.alloc())?;
@@ -24,6 +35,9 @@ fn every_value_is_doubled(rt: HostRuntime) -> Result<(), Fail> {
         let key = half * 2;
         assert_eq!(rt; map.get(&key).copied(), Some(half * 400), "at {key}");
     }
+    set_all(&mut map, 7);
+    assert_eq!(rt; map.len(), 20);
+    assert_eq!(rt; map.get(&38).copied(), Some(7));
     Ok(())
 }
 
