@@ -1,15 +1,17 @@
 -- Canonical lists whose values are read through a function, the places of their ranges, and a list with a value at every number as the
 -- segments of its labelling.
-use Rattle.std.proofs.Common.{◌≡◌, ℕ, zero, suc, ◌+◌, List, [], ◌∷◌, map, slice_get, refl, arith, sym, ◌∙◌, ap}
-use Rattle.std.specs.Prelude.{ℤ, pos, ◌+ℤ◌, ◌≤ℤ◌, ◌<ℤ◌, Bool, true, false, if◌then◌else◌, Option, Some, None}
-use Rattle.std.specs.Option.{option_map, option_eq}
+use Rattle.std.proofs.Common.{◌≡◌, ℕ, zero, suc, ◌+◌, List, [], ◌∷◌, map, slice_get, refl, arith, sym, ◌∙◌, ap, ◌++◌, reverse}
+use Rattle.std.specs.Prelude.{ℤ, pos, ◌+ℤ◌, ◌≤ℤ◌, ◌<ℤ◌, Bool, true, false, if◌then◌else◌, Option, Some, None, nat_eq}
+use Rattle.std.specs.Option.{option_map, option_eq, option_or}
+use Rattle.std.proofs.lemmas.Bool.Decides.{Decides-eqb}
 use Rattle.std.proofs.lemmas.Int.{ints, by_lt_z}
+use Rattle.std.proofs.lemmas.List.{reverse-append}
 use Rattle.number_line.specs.Ranges.{lies_in}
 use Rattle.number_line.specs.Segments.{Segment, segments, IsCut}
 use Rattle.number_line.specs.Valued.{value_at, StopsBefore, IsCanonicalMap, HasValues}
-use Rattle.number_line.specs.Rows.{revalued, segment_of, place_at, with_places}
+use Rattle.number_line.specs.Rows.{revalued, segment_of, place_at, value_of_place, with_places}
 use Rattle.number_line.proofs.SegmentLemmas.{cut_is_segments}
-use Rattle.number_line.proofs.ValuedLemmas.{inside, before, behind, lies_within, value_in_first, value_in_rest, none_before_first}
+use Rattle.number_line.proofs.ValuedLemmas.{inside, before, behind, lies_within, value_in_first, value_in_rest, none_below, none_before_first}
 
 module _ {V W : Type 0} (g : V → W) where
   -- the value at x of a list whose values are read through g
@@ -103,11 +105,6 @@ module _ {L : Type 0} (same : L → L → Bool) (decides : (a b : L) → same a 
 -- ---- places of ranges
 
 module _ {V : Type 0} where
-  -- the value at a place
-  abbrev pub value_of_place : List ((ℤ × ℤ) × V) → Option ℕ → Option V
-  value_of_place list None = None
-  value_of_place list (Some i) = option_map (λ (p : (ℤ × ℤ) × V). p.1) (slice_get list i)
-
   -- the value at x stands at the place of x
   pub value_is_placed : (list : List ((ℤ × ℤ) × V)) (x : ℤ) → value_of_place list (place_at list x) ≡ value_at list x
   value_is_placed [] x = refl
@@ -135,7 +132,58 @@ module _ {V : Type 0} where
       go e true = let zero_more : k ≡ 0 + k = omega arith in ap Some zero_more
       go e false = e ∙ shifted (place_at rest x)
 
+  -- without a value there is no place
+  pub nothing_is_placed : (list : List ((ℤ × ℤ) × V)) (x : ℤ) → value_at list x ≡ None → place_at list x ≡ None
+  nothing_is_placed [] x e = refl
+  nothing_is_placed (p ∷ rest) x e = go (nothing_is_placed rest x) (lies_in p.0 x) e
+    where
+      go : (value_at rest x ≡ None → place_at rest x ≡ None) → (b : Bool) → (if b then Some p.1 else value_at rest x) ≡ None
+          → (if b then Some 0 else option_map suc (place_at rest x)) ≡ None
+      go ih true h = cc
+      go ih false h = ap (option_map suc) (ih h)
+
+  value_joined : (a b : List ((ℤ × ℤ) × V)) (x : ℤ) → value_at (a ++ b) x ≡ option_or (value_at a x) (value_at b x)
+  value_joined [] b x = refl
+  value_joined (p ∷ a) b x = go (value_joined a b x) (lies_in p.0 x)
+    where
+      go : value_at (a ++ b) x ≡ option_or (value_at a x) (value_at b x) → (t : Bool)
+          → (if t then Some p.1 else value_at (a ++ b) x) ≡ option_or (if t then Some p.1 else value_at a x) (value_at b x)
+      go e true = refl
+      go e false = e
+
   module _ (same : V → V → Bool) (hi : ℤ) where
+    -- of ranges that don't overlap the last one that holds x is the first
+    pub value_reversed : (lo : ℤ) (list : List ((ℤ × ℤ) × V)) (x : ℤ) → IsCanonicalMap same lo hi list → value_at (reverse list) x ≡ value_at list x
+    value_reversed lo [] x c = refl
+    value_reversed lo (p ∷ rest) x c =
+        let turned : reverse (p ∷ rest) ≡ reverse rest ++ p ∷ [] = reverse-append (p ∷ []) rest in
+        let later : value_at (reverse rest) x ≡ value_at rest x = value_reversed (p.0.1 +ℤ pos 1) rest x c.4 in
+        rw turned (value_joined (reverse rest) (p ∷ []) x ∙ (ap (λ r. option_or r (value_at (p ∷ []) x)) later ∙ go (lies_in p.0 x) refl))
+      where
+        alone : (r : Option V) → option_or r None ≡ r
+        alone None = refl
+        alone (Some v) = refl
+
+        go : (b : Bool) → lies_in p.0 x ≡ b → option_or (value_at rest x) (if b then Some p.1 else None) ≡ (if b then Some p.1 else value_at rest x)
+        go true h =
+            let in_p = lies_within p.0 x h in
+            let none : value_at rest x ≡ None = none_below same (p.0.1 +ℤ pos 1) hi rest x c.4 (omega (arith, ints, in_p.1)) in
+            rw none refl
+        go false h = alone (value_at rest x)
+
+    -- places differ, so ranges with their places are canonical
+    pub places_canonical : (k : ℕ) (lo : ℤ) (list : List ((ℤ × ℤ) × V)) → IsCanonicalMap same lo hi list → IsCanonicalMap nat_eq lo hi (with_places k list)
+    places_canonical k lo [] c = tt
+    places_canonical k lo (p ∷ rest) c = (c.0, c.1, c.2, differ rest, places_canonical (suc k) (p.0.1 +ℤ pos 1) rest c.4)
+      where
+        other : (b : Bool) → nat_eq k (suc k) ≡ b → b ≡ false
+        other true e = let same_number : k ≡ suc k = (Decides-eqb k (suc k)).0 e in absurd (omega arith)
+        other false e = refl
+
+        differ : (rest : List ((ℤ × ℤ) × V)) → StopsBefore nat_eq (p.0, k) (with_places (suc k) rest)
+        differ [] = tt
+        differ (q ∷ rest) = λ touches. other (nat_eq k (suc k)) refl
+
     -- neighbouring numbers with the same value lie in one range
     pub same_value_same_place : (lo : ℤ) (list : List ((ℤ × ℤ) × V)) (x : ℤ) (a b : V) → IsCanonicalMap same lo hi list
         → value_at list x ≡ Some a → value_at list (x +ℤ pos 1) ≡ Some b → same a b ≡ true → place_at list x ≡ place_at list (x +ℤ pos 1)
