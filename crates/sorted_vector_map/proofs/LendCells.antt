@@ -7,7 +7,7 @@ use mir.Syntax.{Lifetime}
 use mir.Val.{Val, vptr}
 use mathlib.Core.Path.{refl}
 use base.Fraction.{full_share}
-use base.Logic.{SProp, ent, sep, emp, id⊢, never_e}
+use base.Logic.{ent, sep, emp, id⊢, never_e}
 use base.Stored.{coded_list}
 use base.Fml.{Lft, Share, GName, ffalse, fsep, flft, fobs, fbor}
 use types.Logic.{Logic, sem}

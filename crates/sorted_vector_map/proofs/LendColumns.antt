@@ -3,8 +3,7 @@
 --     keys_lie, keys_seen the keys where they lie, and what a `&` to each of them has
 --     apart, together     the pairs taken apart, and put together with other values
 --     sees_slots          what a `&` to each slot has, out of that to its key
-use mathlib.Core.Path.{◌≡◌, refl, ap, sym, ◌∙◌}
-use native.Mathlib.Omega.{arith}
+use mathlib.Core.Path.{◌≡◌, refl, ap}
 use Prim.Native.Nat.{ℕ, suc, ◌+◌}
 use mathlib.Core.List.{List, [], ◌∷◌, map}
 use lib.ListN.{length}
@@ -23,7 +22,6 @@ use denote.RawPtr.{Ptr, block_ptr, lies_at}
 use denote.Sharing.{nothing as no_sharing, beside}
 use denote.Shares.{Shares-less}
 use denote.Steps.{nothing}
-use denote.Laws.{Lawfuls}
 use denote.Struct.Lending.{lent_at, Lends, Lends-lies, Lends-both, Lends-nothing}
 use denote.Struct.Members.{Member, parts_at, rows_of}
 use denote.Struct.Parts.{PartsBack, Struct-parts}

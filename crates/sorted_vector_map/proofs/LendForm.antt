@@ -2,7 +2,7 @@
 use Prim.Native.Nat.{ℕ, ◌+◌, ◌-◌, ◌%◌}
 use native.Mathlib.Omega.{arith}
 use native.Mathlib.Nat.{mod_self, max-eq_left}
-use mathlib.Core.List.{List, [], ◌∷◌}
+use mathlib.Core.List.{[], ◌∷◌}
 use mir.Syntax.{Args, Sym, Ty, a_type, ty_struct, tcons, tnil}
 use mir.Val.{Val, vstruct, vcons, vnil}
 use seplogic.Ra.Ura.{Ura}

@@ -13,7 +13,7 @@ use contract.Fact.{fact_use}
 use prog.Memory.{align, up}
 use types.Logic.{Logic, sem}
 use types.SemTy.{SemTy, cells}
-use types.Kit.{‵, raw, ◌⊛◌, ◌$◌, ◌∵◌, !, qed, by, move, keep, drop, use1, use2, use3, split, rewrite, fsplit, fsplit3, fjoin, flt_i, done}
+use types.Kit.{‵, raw, ◌⊛◌, ◌$◌, ◌∵◌, !, qed, by, move, keep, drop, use1, use2, use3, split, rewrite, fsplit3, fjoin, flt_i, done}
 use denote.Array.{Array}
 use denote.Builtin.{usize}
 use denote.RattleType.{RattleType}

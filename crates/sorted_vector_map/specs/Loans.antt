@@ -1,5 +1,5 @@
 -- Values that are lent together, each at a place of its own.
-use Rattle.std.specs.Prelude.{List, [], ◌∷◌, ◌++◌, map}
+use Rattle.std.specs.Prelude.{List, [], ◌∷◌, map}
 use base.Fraction.{full_share}
 use base.Stored.{coded_list}
 use base.Fml.{Lft, GName, Fml, ftrue, ffalse, fsep, fobs, fbor}

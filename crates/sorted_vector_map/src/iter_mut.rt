@@ -76,14 +76,14 @@ impl<K: Ord, V> SortedVectorMap<K, V> {
     }
 }
 
-impl<'a, K: Ord, V> IntoIterator for &'a mut SortedVectorMap<K, V> {
-    type Item = (&'a K, &'a mut V);
+impl<'map, K: Ord, V> IntoIterator for &'map mut SortedVectorMap<K, V> {
+    type Item = (&'map K, &'map mut V);
 
-    type IntoIter = IterMut<'a, K, V>;
+    type IntoIter = IterMut<'map, K, V>;
 
     ghost into_iter_gives = { λ m r. (r.rest ≡ m.now.pairs) × (length r.rest < 2 ^ 64) × LendsInOrder (deref_pair_mut {K = K} {X = V}) × LendsInReverse (deref_pair_mut {K = K} {X = V}) × IsStrictlySortedBy (by_key K.cmp) m.now.pairs };
 
-    fn into_iter(self) -> IterMut<'a, K, V>
+    fn into_iter(self) -> IterMut<'map, K, V>
         ensures* writes_back { sem 𝓛 (lends_values K.row V.row K.Ord self.entry result.loan) }
         ensures into_iter_gives { (result.rest ≡ self.old.pairs) × (length result.rest < 2 ^ 64) × LendsInOrder (deref_pair_mut {K = K} {X = V}) × LendsInReverse (deref_pair_mut {K = K} {X = V}) × IsStrictlySortedBy (by_key K.cmp) self.old.pairs }
         ensures keys { KeepsKeys self.old }
@@ -97,12 +97,12 @@ impl<'a, K: Ord, V> IntoIterator for &'a mut SortedVectorMap<K, V> {
 ///
 /// It gives them from both ends, in O(1) time each and without memory, and its hint is their exact number.
 #[derive(Drop)]
-pub struct IterMut<'a, K, V> {
-    slots: &'a [Slot<K, V>],
-    lent: Lent<'a, V>,
+pub struct IterMut<'map, K, V> {
+    slots: &'map [Slot<K, V>],
+    lent: Lent<'map, V>,
 }
 
-impl<'a, K, V> Model for IterMut<'a, K, V> {
+impl<'map, K, V> Model for IterMut<'map, K, V> {
     ghost use Rattle.std.specs.Prelude.{◌≡◌, map};
     ghost use Rattle.sorted_vector_map.specs.Lending.{Lending};
     ghost use Rattle.sorted_vector_map.specs.Slots.{pair_of, cell_of};
@@ -114,8 +114,8 @@ impl<'a, K, V> Model for IterMut<'a, K, V> {
     ghost invariant = { λ it. it.lent.cells ≡ map cell_of it.slots.now };
 }
 
-impl<'a, K, V> IterMut<'a, K, V> {
-    fn new(slots: &'a [Slot<K, V>], lent: Lent<'a, V>) -> Self
+impl<'map, K, V> IterMut<'map, K, V> {
+    fn new(slots: &'map [Slot<K, V>], lent: Lent<'map, V>) -> Self
         requires { lent.cells ≡ map cell_of slots.now }
         ensures rest { result.rest ≡ map pair_of slots.now }
         ensures loan { result.loan ≡ lent.entry.tie }
@@ -124,14 +124,14 @@ impl<'a, K, V> IterMut<'a, K, V> {
     }
 }
 
-impl<'a, K, V> Iterator for IterMut<'a, K, V> {
-    type Item = (&'a K, &'a mut V);
+impl<'map, K, V> Iterator for IterMut<'map, K, V> {
+    type Item = (&'map K, &'map mut V);
 
     ghost next_gives = { LendsFirstOf deref_pair_mut };
 
     ghost remaining = { λ it. at_most (length it.rest) };
 
-    fn next(&mut self) -> Option<(&'a K, &'a mut V)> {
+    fn next(&mut self) -> Option<Self::Item> {
         let (slot, rest) = self.slots.split_first()?;
         self.slots = rest;
         Some(slot.take_first(&mut self.lent))
@@ -147,17 +147,17 @@ impl<'a, K, V> Iterator for IterMut<'a, K, V> {
     }
 }
 
-impl<'a, K, V> DoubleEndedIterator for IterMut<'a, K, V> {
+impl<'map, K, V> DoubleEndedIterator for IterMut<'map, K, V> {
     ghost next_back_gives = { LendsLastOf deref_pair_mut };
 
-    fn next_back(&mut self) -> Option<(&'a K, &'a mut V)> {
+    fn next_back(&mut self) -> Option<Self::Item> {
         let (slot, rest) = self.slots.split_last()?;
         self.slots = rest;
         Some(slot.take_last(&mut self.lent))
     }
 }
 
-impl<'a, K, V> ExactSizeIterator for IterMut<'a, K, V> {
+impl<'map, K, V> ExactSizeIterator for IterMut<'map, K, V> {
     fn len(&self) -> usize {
         self.slots.len()
     }
@@ -167,11 +167,11 @@ impl<'a, K, V> ExactSizeIterator for IterMut<'a, K, V> {
 ///
 /// It gives them from both ends, in O(1) time each and without memory, and its hint is their exact number.
 #[derive(Drop)]
-pub struct ValuesMut<'a, K, V> {
-    pairs: IterMut<'a, K, V>,
+pub struct ValuesMut<'map, K, V> {
+    pairs: IterMut<'map, K, V>,
 }
 
-impl<'a, K, V> Model for ValuesMut<'a, K, V> {
+impl<'map, K, V> Model for ValuesMut<'map, K, V> {
     ghost use Rattle.std.specs.Prelude.{map};
     ghost use Rattle.sorted_vector_map.specs.Lending.{Lending};
 
@@ -180,14 +180,14 @@ impl<'a, K, V> Model for ValuesMut<'a, K, V> {
     ghost view = { λ it. record { rest = map (λ p. p.1) it.pairs.rest; loan = it.pairs.loan } };
 }
 
-impl<'a, K, V> Iterator for ValuesMut<'a, K, V> {
-    type Item = &'a mut V;
+impl<'map, K, V> Iterator for ValuesMut<'map, K, V> {
+    type Item = &'map mut V;
 
     ghost next_gives = { LendsFirstOf deref_mut };
 
     ghost remaining = { λ it. at_most (length it.rest) };
 
-    fn next(&mut self) -> Option<&'a mut V> {
+    fn next(&mut self) -> Option<Self::Item> {
         let (_, value) = self.pairs.next()?;
         Some(value)
     }
@@ -202,10 +202,10 @@ impl<'a, K, V> Iterator for ValuesMut<'a, K, V> {
     }
 }
 
-impl<'a, K, V> DoubleEndedIterator for ValuesMut<'a, K, V> {
+impl<'map, K, V> DoubleEndedIterator for ValuesMut<'map, K, V> {
     ghost next_back_gives = { LendsLastOf deref_mut };
 
-    fn next_back(&mut self) -> Option<&'a mut V> {
+    fn next_back(&mut self) -> Option<Self::Item> {
         let (_, value) = self.pairs.next_back()?;
         Some(value)
     }

@@ -87,7 +87,11 @@ fn a_range_is_written_and_the_others_stay(rt: HostRuntime) -> Result<(), Fail> {
     }
     for half in 0u32..20 {
         let key = half * 2;
-        let value = if 3 <= half && half <= 7 { 1 } else { half * 200 };
+        let value = if 3 <= half && half <= 7 {
+            1
+        } else {
+            half * 200
+        };
         assert_eq!(rt; map.get(&key).copied(), Some(value), "at {key}");
     }
     Ok(())

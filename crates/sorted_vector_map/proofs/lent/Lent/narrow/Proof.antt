@@ -5,13 +5,13 @@ use mathlib.Core.List.{List, [], ◌∷◌, ◌++◌, append_assoc}
 use mir.Syntax.{Args, Fn, a_type, named, w64}
 use mir.MapTy.{inst_fn}
 use mir.Val.{Val, vunit}
-use base.Logic.{emp, id⊢}
+use base.Logic.{emp}
 use base.Fml.{ftrue, flft}
 use contract.Fact.{fact_i}
 use contract.Lifetimes.{Lfts}
 use contract.Monad.{fact}
 use contract.Running.{tables}
-use types.Kit.{‵, raw, ◌⊛◌, ◌$◌, ◌∵◌, !, qed, move, keep, drop, use0, use1, split, join, group, rewrite, fsplit, fsplit3, fjoin, fjoin3, feq_i, suffices, done}
+use types.Kit.{‵, raw, ◌⊛◌, ◌$◌, ◌∵◌, !, qed, move, keep, drop, use0, split, join, group, rewrite, fsplit, fsplit3, fjoin, fjoin3, feq_i, suffices, done}
 use types.Part.{agg}
 use types.Run.{of_opd, unit_lit, and_then, no_more, returns, enter}
 use types.ByLocal.{alloc_all, pass_all, free_all, look_at, get, sets}
@@ -25,7 +25,6 @@ use denote.Param.{layouts, param}
 use denote.Signature.{plain, named_lft}
 use denote.Steps.{nothing, opens, closes}
 use denote.Triple.Clauses.{Ended}
-use denote.Triple.Entry.{on_entry}
 use denote.Triple.Walked.{Stays, stay_dropped, stay_ref, walk_of, ends_at, Goes-dropped, Goes-ref}
 use Rattle.std.proofs.Common.{take, take-append-drop}
 use lib.ListN.{drop as drop_items}

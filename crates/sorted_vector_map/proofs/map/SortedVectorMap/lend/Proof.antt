@@ -2,26 +2,26 @@
 use mathlib.Core.Path.{◌≡◌, refl, sym, ap, subst, ◌∙◌}
 use Prim.Native.Nat.{ℕ, ◌*◌, ◌<◌, ◌^◌}
 use native.Mathlib.Omega.{arith}
-use mathlib.Core.List.{List, [], ◌∷◌, ◌++◌, map, append-nil}
+use mathlib.Core.List.{List, [], ◌∷◌, map, append-nil}
 use lib.ListN.{length}
 use seplogic.Ra.Ura.{Ura}
 use mir.Syntax.{Fn, named}
 use mir.MapTy.{inst_fn}
 use mir.Val.{Val, vptr, vstruct, vcons, vnil}
 use base.Fraction.{full_share}
-use base.Logic.{SProp, ent, sep, emp, id⊢, never}
-use base.Fml.{Lft, GName, Share, Fml, ftrue, flft, fobs, fbor, fseps, Incl-refl, Incl-trans}
+use base.Logic.{SProp, ent, emp, id⊢, never}
+use base.Fml.{Lft, GName, Share, ftrue, flft, fobs, fbor, fseps, Incl-refl, Incl-trans}
 use prog.Memory.{Memory}
 use prog.Routine.{Routine}
 use prog.Wp.{Env, Calls, Loops, WpFn}
-use types.Logic.{Logic, sem}
+use types.Logic.{Logic}
 use types.SemTy.{Body as Borrowed, cells}
 use types.Mut.{open_ref}
 use types.Follow.{after, takes_beside, takes_part}
 use types.Part.{agg}
 use types.Run.{stop, fld, of_opd, addr, and_then, no_more, first, blocks, exec, returns, enter}
 use types.ByLocal.{alloc_all, pass_all, free_all, look_at, get, through, sets, sets_last, env}
-use types.Kit.{Item, ‵, raw, ◌⊛◌, some, later, await, pick, learn, at_ret, ◌$◌, ◌∵◌, !, qed, by, move, keep, drop, use0, use1, use2, split, split3, join, group, rewrite, fsplit, fsplit3, fjoin, feq_i, flt_l, flt_i, suffices, done}
+use types.Kit.{Item, ‵, raw, ◌⊛◌, some, later, await, pick, at_ret, ◌$◌, ◌∵◌, !, qed, by, move, keep, drop, use0, use1, use2, split, split3, join, group, rewrite, fsplit, fsplit3, fjoin, feq_i, flt_l, flt_i, suffices, done}
 use contract.BorrowLft.{◌⊑◌, ⊑_static}
 use contract.Fact.{fact_i}
 use contract.Lifetimes.{Lfts, Shares, AllOutlive}
@@ -37,8 +37,8 @@ use denote.Model.Fields.{view_owns, plain_out}
 use denote.Opens.{hide}
 use denote.Param.Laws.{row_shared}
 use denote.Param.Shared.{parts_share, copy_shared}
-use denote.RawPtr.{Ptr, block_ptr, in_block, in_a_block}
-use denote.Ref.{Bor, MutBor, MutRef, ShrRef, mut_vals, mut_Tells}
+use denote.RawPtr.{Ptr, in_block, in_a_block}
+use denote.Ref.{Bor, MutRef, ShrRef, mut_vals, mut_Tells}
 use denote.Signature.{plain, named_lft, mut_ref_to}
 use denote.Steps.{nothing, heard}
 use denote.Struct.Field.{RawPtr-field, usize-field, row_field}
@@ -74,21 +74,21 @@ use Rattle.sorted_vector_map.specs.declared.lent.Lent.{Lent}
 use Rattle.sorted_vector_map.specs.contracts.lent.Lent as Lent-type
 use Rattle.sorted_vector_map.specs.contracts.map.SortedVectorMap.lend.{ended, clauses}
 use Rattle.sorted_vector_map.specs.contracts.map.SortedVectorMap.lend.Key.{name as #self}
-use Rattle.sorted_vector_map.proofs.LendForm.{Two, KR, VR, KD, VD, PairR, SlotR, no_bytes, no_bytes_made, slot_size}
+use Rattle.sorted_vector_map.proofs.LendForm.{Two, VR, KD, VD, PairR, SlotR, no_bytes, no_bytes_made, slot_size}
 use Rattle.sorted_vector_map.proofs.LendColumns.{Pairs, pair_size, slots_of, places_of, values_of, keys_lie, keys_seen, pairs_of_slots, values_of_slots, length-slots_of, EachBack, apart, sees_slots, lends_keys}
-use Rattle.sorted_vector_map.proofs.LendMap.{OrderOf, global, map_args, MapR, InsideR, pair_el, VecR, SlotsR, WordsR, view, Good, values_in, vec_at, MapBack, vec_of_map, Words, ValuesTy, MapTy, Left, map_again, values_again}
+use Rattle.sorted_vector_map.proofs.LendMap.{OrderOf, global, map_args, MapR, InsideR, pair_el, VecR, SlotsR, WordsR, view, Good, values_in, vec_at, MapBack, vec_of_map, ValuesTy, MapTy, Left, map_again, values_again}
 use Rattle.sorted_vector_map.proofs.map.SortedVectorMap.lend.Statement as stated
 use Rattle.sorted_vector_map.proofs.map.SortedVectorMap.lend.Code as code
 
 module _ (E : Two) (O : OrderOf (KD E)) where
-  abbrev fn' : Fn
-  fn' = inst_fn (map_args E O) code.function
+  abbrev routine : Fn
+  routine = inst_fn (map_args E O) code.function
 
   abbrev end : Ended
   end = ended E.key E.val O.ord O.ord_table O.total O.total_table O.eq O.eq_table O.partial O.partial_table
 
-  abbrev stayed : Stays end.signature.params end.kept
-  stayed = (stay_dropped (mut_ref_to (0 ∷ []) tt (plain (λ _. MapR E O))) no, tt)
+  abbrev passing : Stays end.signature.params end.kept
+  passing = (stay_dropped (mut_ref_to (0 ∷ []) tt (plain (λ _. MapR E O))) no, tt)
 
 module _ (E : Two) (O : OrderOf (KD E)) {M : Type 1} {𝓤 : Ura M} (𝓛 : Logic 𝓤) (mem_at : Memory → SProp 𝓤) (run : Routine → Fun 𝓤) where
   open 𝓛 use {H}
@@ -103,11 +103,11 @@ module _ (E : Two) (O : OrderOf (KD E)) {M : Type 1} {𝓤 : Ura M} (𝓛 : Logi
     abbrev q : Share
     q = qs.0
 
-    abbrev bound : (walk_of 𝓛 (end E O) (stayed E O) spec).Ghost
-    bound = ((κs, qs, within, (record { ref_ptr = (rb, ro); ghost_name = γ; now = d }, tt), (vptr rb ro ∷ [], tt)), tt)
+    abbrev entry : (walk_of 𝓛 (end E O) (passing E O) spec).Ghost
+    entry = ((κs, qs, within, (record { ref_ptr = (rb, ro); ghost_name = γ; now = d }, tt), (vptr rb ro ∷ [], tt)), tt)
 
-    abbrev Post : Val → SProp 𝓤
-    Post = (walk_of 𝓛 (end E O) (stayed E O) spec).post bound
+    abbrev Finish : Val → SProp 𝓤
+    Finish = (walk_of 𝓛 (end E O) (passing E O) spec).post entry
 
     abbrev LoanR : RattleType
     LoanR = Lent-type.the_row (named_lft 3 0 tt κs) (VR E)
@@ -119,16 +119,16 @@ module _ (E : Two) (O : OrderOf (KD E)) {M : Type 1} {𝓤 : Ura M} (𝓛 : Logi
     other_tokens = ‵ (flft κs.1.0 qs.1.0) ⊛ ‵ (flft κs.1.1.0 qs.1.1.0) ⊛ ‵ ftrue
 
     module _ (C : Calls 𝓤 H) (Λ : Loops 𝓤 H) (lives : κs.1.0 ⊑ E.key.lives) where
-      walk : ent 𝓤 (on_entry 𝓛 (end E O).signature κs qs bound.0.3 bound.0.4) (WpFn 𝓤 H C Λ (fn' E O) (vptr rb ro ∷ []) Post)
+      walk : ent 𝓤 (on_entry 𝓛 (end E O).signature κs qs entry.0.3 entry.0.4) (WpFn 𝓤 H C Λ (routine E O) (vptr rb ro ∷ []) Finish)
       unfolding fseps
       walk =
           let key_lives = Incl-trans within.0 lives in
           let map_code = (MapR E O).coded.code d in
           let Owns = view_owns (InsideR E O) (Content (KD E) (VD E)) (MapR E O).coded (view E O) (Good E O) in
-          qed 𝓛 ((‵ (flft κ q) ⊛ other_tokens) ∷ ‵ (owns (MutRef (named 0) κ (MapR E O) ∷ []) bound.0.3 bound.0.4) ∷ []) ∵ split ! $ move ! (2 ∷ []) $ fsplit ! $ fsplit3 ! $ drop ! $
+          qed 𝓛 ((‵ (flft κ q) ⊛ other_tokens) ∷ ‵ (owns (MutRef (named 0) κ (MapR E O) ∷ []) entry.0.3 entry.0.4) ∷ []) ∵ split ! $ move ! (2 ∷ []) $ fsplit ! $ fsplit3 ! $ drop ! $
           -- [what the map is now; its borrow; nothing; the token; the other tokens]
-          move ! (0 ∷ 1 ∷ 3 ∷ []) $ enter ! C Λ (fn' E O) (vptr rb ro ∷ []) _ $ alloc_all ! (λ l. pass_all ! refl ((tt, tt), tt) $
-          let En : Env 𝓤 H = env (fn' E O).locals l in
+          move ! (0 ∷ 1 ∷ 3 ∷ []) $ enter ! C Λ (routine E O) (vptr rb ro ∷ []) _ $ alloc_all ! (λ l. pass_all ! refl ((tt, tt), tt) $
+          let Locals : Env 𝓤 H = env (routine E O).locals l in
           open_ref ! tt (mem (MapR E O)) {x = d} {b = rb} {o = ro} $
           use1 𝓛 (some (λ (x : (m : (InsideR E O).Denot) × ((view E O m ≡ d) × Good E O m)). ‵ (part_at (InsideR E O) full_share x.0 rb ro))) (plain_out (MapR E O) (InsideR E O) Owns 𝓛 full_share d rb ro) $ pick ! (λ x.
           let h : el_d (pair_el E O) = x.0.items in let seen = x.1.0 in let good = x.1.1 in let ps : Pairs E = h.items in
@@ -180,11 +180,11 @@ module _ (E : Two) (O : OrderOf (KD E)) {M : Type 1} {𝓤 : Ura M} (𝓛 : Logi
           words κ ((κ, q) ∷ []) rb vec (⊑_static κ) (Incl-refl κ)) $ await ! tt $ split ! $ move ! (0 ∷ 2 ∷ []) $ fjoin ! $ hide ! $
           feq_i ! (List Val) (vptr rb vec ∷ []) (vptr rb vec ∷ []) refl $ fjoin ! $ move ! (0 ∷ 4 ∷ []) $ two_made ! (ShrRef (named 0) κ (SlotsR E O)) LoanR top lent (vptr rb vec) no_bytes $
           sets ! (addr ! (through ! refl (fld ! refl (stop !)))) refl (tt, tt) $ first ! $ blocks ! $ sets_last ! (addr ! (through ! refl (stop !))) refl (tt, tt) $
-          exec ! C Λ En (after_code 2 (fn' E O).body) (at_ret En Post) $ sets ! (of_opd ! (get ! refl)) refl (tt, tt) $ sets ! (agg ! (no_more !)) refl (tt, tt) $
+          exec ! C Λ Locals (after_code 2 (routine E O).body) (at_ret Locals Finish) $ sets ! (of_opd ! (get ! refl)) refl (tt, tt) $ sets ! (agg ! (no_more !)) refl (tt, tt) $
           sets ! (agg ! (and_then ! (get ! refl) (no_more !))) refl (tt, (tt, tt)) $ sets ! (agg ! (and_then ! (get ! refl) (and_then ! (get ! refl) (no_more !)))) refl (tt, (tt, ((tt, tt), tt))) $
           returns ! (look_at ! 0 refl) $ free_all ! refl $ keep ! (0 ∷ 1 ∷ 4 ∷ 6 ∷ []) $
           -- [the pair; the token; what follows; the other tokens]
-          suffices ! _ (ends_at 𝓛 (end E O) (stayed E O) spec bound (vstruct (vcons (vptr rb vec) (vcons no_bytes vnil))) (top, lent) (tt, tt) (tt, tt)) $
+          suffices ! _ (ends_at 𝓛 (end E O) (passing E O) spec entry (vstruct (vcons (vptr rb vec) (vcons no_bytes vnil))) (top, lent) (tt, tt) (tt, tt)) $
           move ! (1 ∷ 3 ∷ []) $ join ! $ nothing ! $ nothing ! $ fjoin ! $ move ! (1 ∷ 0 ∷ 2 ∷ []) $ group ! 3 $
           use0 𝓛 (raw (fact 𝓤 (Ascends d.pairs))) (fact_i 𝓤 (Ascends d.pairs) (emp 𝓤) (subst Ascends same good)) $
           use0 𝓛 (raw (fact 𝓤 (map cell_of slots ≡ map cell_of slots))) (fact_i 𝓤 (map cell_of slots ≡ map cell_of slots) (emp 𝓤) refl) $ join ! $
@@ -196,8 +196,8 @@ lend_spec 𝓤 𝓛 𝓜 𝓡 wired K V LK LV o₀ d₀ o₁ d₁ o₂ d₂ o₃
     let E : Two = record { key = K; key_laws = LK; val = V; val_laws = LV } in
     let O : OrderOf K.Denot = record { ord = o₀; ord_table = d₀; total = o₁; total_table = d₁; eq = o₂; eq_table = d₂; partial = o₃; partial_table = d₃ } in
     let c = spec E O 𝓛 𝓜.mem 𝓡.returns in let 𝓣 = tables 𝓤 𝓛.H 𝓜 𝓡 𝓡.env in
-    proved 𝓛 (end E O) (stayed E O) c 𝓜 𝓡 (Goes-spent_ref 𝓛 3 (0 ∷ []) tt (plain (λ _. MapR E O)), tt)
-    (#self (map_args E O)) (fn' E O) (code.unfolded 𝓤 𝓛.H 𝓜 𝓡 wired (K, (V, tt)) d₀ d₁ d₂ d₃)
+    proved 𝓛 (end E O) (passing E O) c 𝓜 𝓡 (Goes-spent_ref 𝓛 3 (0 ∷ []) tt (plain (λ _. MapR E O)), tt)
+    (#self (map_args E O)) (routine E O) (code.unfolded 𝓤 𝓛.H 𝓜 𝓡 wired (K, (V, tt)) d₀ d₁ d₂ d₃)
     (λ κs. (mut_vals, tt)) (λ κs. (mut_Tells (named 0) κs.0 (MapR E O), tt))
     (λ κs qs bounds a g are.
     qed 𝓛 (raw (on_entry 𝓛 (end E O).signature κs qs a (mut_vals a.0, tt)) ∷ (raw (fact 𝓤 (κs.1.0 ⊑ K.lives)) ⊛ raw (fact 𝓤 (κs.1.1.0 ⊑ V.lives)) ⊛ raw (emp 𝓤)) ∷ []) ∵

@@ -1,10 +1,7 @@
-use lib.ListN.{length, length-map}
 use Rattle.std.proofs.Common.{◌≡◌, ◌-◌, ℕ, List, refl, sym, ap, map, take, drop, arith, ◌∙◌}
 use Rattle.std.specs.List.{take-map, drop-map}
-use Rattle.std.specs.Map.Iter.{deref_pair_mut}
 use Rattle.ordered_lists.proofs.CutLemmas.{cut_between}
 use Rattle.sorted_vector_map.specs.Slots.{pair_of, cell_of}
-use Rattle.sorted_vector_map.proofs.LendingRuns.{lends_in_order, lends_in_reverse}
 use Rattle.sorted_vector_map.proofs.RefillLemmas.{keys-with_values, length-with_values}
 use Rattle.sorted_vector_map.proofs.map.SortedVectorMap.range_mut.Goals as goal
 

@@ -6,13 +6,12 @@ use seplogic.Ra.Ura.{Ura}
 use mir.Syntax.{Fn, named}
 use mir.MapTy.{inst_fn}
 use mir.Val.{Val, vptr, vstruct, vcons, vnil}
-use base.Logic.{SProp, ent, sep, emp}
-use base.Fml.{Lft, Share, GName, ftrue, flft, fobs, fbor}
+use base.Logic.{SProp, ent, emp}
+use base.Fml.{Lft, GName, ftrue, flft}
 use prog.Memory.{Memory}
 use prog.Routine.{Routine}
 use prog.Wp.{Env, Calls, Loops, WpFn}
-use types.Logic.{Logic, sem}
-use types.SemTy.{Body as Borrowed}
+use types.Logic.{Logic}
 use contract.BorrowLft.{◌⊑◌}
 use contract.Lifetimes.{Lfts, Shares, AllOutlive}
 use contract.Fact.{fact_i}
@@ -24,7 +23,6 @@ use types.Run.{stop, fld, of_opd, addr, and_then, no_more, first, blocks, exec, 
 use types.ByLocal.{alloc_all, pass_all, free_all, look_at, get, through, sets, sets_last, env}
 use denote.Exit.{yes}
 use denote.RattleType.{RattleType, owns}
-use denote.Memory.{mem}
 use denote.RawPtr.{Ptr, block_ptr}
 use denote.Ref.{Bor, MutBor, MutRef, ShrRef, mut_vals, mut_Tells, shr_vals, shr_Tells}
 use denote.Builtin.{RefOf}
@@ -49,8 +47,8 @@ use Rattle.sorted_vector_map.proofs.slot.Slot.take_first.Statement as stated
 use Rattle.sorted_vector_map.proofs.slot.Slot.take_first.Code as code
 
 module _ (E : Two) where
-  abbrev fn' : Fn
-  fn' = inst_fn (two_args E) code.function
+  abbrev routine : Fn
+  routine = inst_fn (two_args E) code.function
 
   abbrev end : Ended
   end = ended E.key E.val
@@ -58,8 +56,8 @@ module _ (E : Two) where
   abbrev Loan : Lfts 4 → RattleType
   Loan κs = Lent-type.the_row (named_lft 4 0 tt κs) (VR E)
 
-  abbrev stayed : Stays end.signature.params end.kept
-  stayed = (stay_dropped (RefOf (0 ∷ []) tt (plain (λ _. SlotR E)) (λ _. tt)) yes, (stay_ref (1 ∷ []) tt (plain Loan), tt))
+  abbrev passing : Stays end.signature.params end.kept
+  passing = (stay_dropped (RefOf (0 ∷ []) tt (plain (λ _. SlotR E)) (λ _. tt)) yes, (stay_ref (1 ∷ []) tt (plain Loan), tt))
 
 module _ (E : Two) {M : Type 1} {𝓤 : Ura M} (𝓛 : Logic 𝓤) (at : Memory → SProp 𝓤) (run : Routine → Fun 𝓤) where
   open 𝓛 use {H, A}
@@ -74,11 +72,11 @@ module _ (E : Two) {M : Type 1} {𝓤 : Ura M} (𝓛 : Logic 𝓤) (at : Memory 
     abbrev It : RattleType
     It = Loan E κs
 
-    abbrev bound : (walk_of 𝓛 (end E) (stayed E) spec).Ghost
-    bound = ((κs, qs, within, (record { ref_ptr = (b, o); now = s }, (record { ref_ptr = (rb, ro); ghost_name = γ; now = d }, tt)), (vptr b o ∷ [], (vptr rb ro ∷ [], tt))), tt)
+    abbrev entry : (walk_of 𝓛 (end E) (passing E) spec).Ghost
+    entry = ((κs, qs, within, (record { ref_ptr = (b, o); now = s }, (record { ref_ptr = (rb, ro); ghost_name = γ; now = d }, tt)), (vptr b o ∷ [], (vptr rb ro ∷ [], tt))), tt)
 
-    abbrev Post : Val → SProp 𝓤
-    Post = (walk_of 𝓛 (end E) (stayed E) spec).post bound
+    abbrev Finish : Val → SProp 𝓤
+    Finish = (walk_of 𝓛 (end E) (passing E) spec).post entry
 
     abbrev Asked : Type 0
     Asked = (later_cells : List (Ptr × VD E)) × (d.cells ≡ cell_of s ∷ later_cells)
@@ -96,11 +94,11 @@ module _ (E : Two) {M : Type 1} {𝓤 : Ura M} (𝓛 : Logic 𝓤) (at : Memory 
     other_tokens = ‵ (flft κs.1.1.0 qs.1.1.0) ⊛ ‵ (flft κs.1.1.1.0 qs.1.1.1.0) ⊛ ‵ ftrue
 
     module _ (C : Calls 𝓤 H) (Λ : Loops 𝓤 H) (asked : Asked) where
-      walk : ent 𝓤 (on_entry 𝓛 (end E).signature κs qs bound.0.3 bound.0.4) (WpFn 𝓤 H C Λ (fn' E) (vptr b o ∷ vptr rb ro ∷ []) Post)
+      walk : ent 𝓤 (on_entry 𝓛 (end E).signature κs qs entry.0.3 entry.0.4) (WpFn 𝓤 H C Λ (routine E) (vptr b o ∷ vptr rb ro ∷ []) Finish)
       walk =
-          qed 𝓛 ((‵ (flft κ qs.0) ⊛ ‵ (flft κs.1.0 qs.1.0) ⊛ other_tokens) ∷ ‵ (owns (ShrRef (named 0) κ (SlotR E) ∷ MutRef (named 1) κs.1.0 It ∷ []) bound.0.3 bound.0.4) ∷ []) ∵ enter ! C Λ (fn' E) (vptr b o ∷ vptr rb ro ∷ []) _ $
+          qed 𝓛 ((‵ (flft κ qs.0) ⊛ ‵ (flft κs.1.0 qs.1.0) ⊛ other_tokens) ∷ ‵ (owns (ShrRef (named 0) κ (SlotR E) ∷ MutRef (named 1) κs.1.0 It ∷ []) entry.0.3 entry.0.4) ∷ []) ∵ enter ! C Λ (routine E) (vptr b o ∷ vptr rb ro ∷ []) _ $
           alloc_all ! (λ l. pass_all ! refl ((tt, tt), ((tt, tt), tt)) $
-          let En : Env 𝓤 H = env (fn' E).locals l in
+          let Locals : Env 𝓤 H = env (routine E).locals l in
           move ! (1 ∷ []) $ fsplit3 ! $ fsplit ! $ drop ! $ unhide ! $ fsplit ! $ fsplit ! $ drop ! $
           -- [the key; where the value lies; the loan's reference; nothing; the tokens]
           hide ! $ feq_i ! (List Val) (vptr b (o + to_key E) ∷ []) (vptr b (o + to_key E) ∷ []) refl $ fjoin ! $ move ! (1 ∷ []) $ feq_l ! (λ here.
@@ -120,15 +118,11 @@ module _ (E : Two) {M : Type 1} {𝓤 : Ura M} (𝓛 : Logic 𝓤) (at : Memory 
           move ! (3 ∷ 0 ∷ 4 ∷ 5 ∷ 6 ∷ []) $ closes ! tt It new vs rb ro $
           -- [what the loan is now; its borrow; its token; the value; the pair's token; the others; the key; nothing]
           move ! (6 ∷ 3 ∷ []) $ two_made ! (ShrRef (named 0) κ (KR E)) (MutRef (named 0) κ (VR E)) key (value names.0) (vptr b (o + to_key E)) (vptr b (o + to_value E)) $
-          sets ! (addr ! (through ! refl (stop !))) refl (tt, tt) $ sets ! (of_opd ! (get ! refl)) refl (tt, tt) $
-          first ! $ blocks ! $
-          sets ! (addr ! (through ! refl (fld ! refl (stop !)))) refl (tt, tt) $
-          sets ! (addr ! (through ! refl (fld ! refl (stop !)))) refl (tt, tt) $
-          sets_last ! (agg ! (and_then ! (get ! refl) (and_then ! (get ! refl) (no_more !)))) refl (tt, (tt, (tt, tt))) $
-          exec ! C Λ En (after 3 (fn' E).body) (at_ret En Post) $
-          sets ! (of_opd ! (get ! refl)) refl (tt, (tt, (tt, tt))) $
+          sets ! (addr ! (through ! refl (stop !))) refl (tt, tt) $ sets ! (of_opd ! (get ! refl)) refl (tt, tt) $ first ! $ blocks ! $
+          sets ! (addr ! (through ! refl (fld ! refl (stop !)))) refl (tt, tt) $ sets ! (addr ! (through ! refl (fld ! refl (stop !)))) refl (tt, tt) $ sets_last ! (agg ! (and_then ! (get ! refl) (and_then ! (get ! refl) (no_more !)))) refl (tt, (tt, (tt, tt))) $
+          exec ! C Λ Locals (after 3 (routine E).body) (at_ret Locals Finish) $ sets ! (of_opd ! (get ! refl)) refl (tt, (tt, (tt, tt))) $
           returns ! (look_at ! 0 refl) $ free_all ! refl $ keep ! (3 ∷ 5 ∷ 4 ∷ 1 ∷ 2 ∷ 0 ∷ []) $
-          suffices ! _ (ends_at 𝓛 (end E) (stayed E) spec bound pair (key, value names.0) (tt, (new, tt)) (tt, (tt, tt))) $
+          suffices ! _ (ends_at 𝓛 (end E) (passing E) spec entry pair (key, value names.0) (tt, (new, tt)) (tt, (tt, tt))) $
           -- [the loan's token; the others; the pair's token; what the loan is now; its borrow; the pair]
           join ! $ move ! (1 ∷ 0 ∷ []) $ join ! $ move ! (1 ∷ 2 ∷ []) $
           feq_i ! (List Val) (vptr rb ro ∷ []) (vptr rb ro ∷ []) refl $ fjoin3 ! $ nothing ! $ move ! (1 ∷ 0 ∷ []) $ fjoin ! $ nothing ! $ fjoin ! $
@@ -142,8 +136,8 @@ pub take_first_spec : {M : Type 1} → stated.statement M
 take_first_spec 𝓤 𝓛 𝓜 𝓡 wired K V LK LV =
     let E : Two = record { key = K; key_laws = LK; val = V; val_laws = LV } in
     let c = spec E 𝓛 𝓜.mem 𝓡.returns in let 𝓣 = tables 𝓤 𝓛.H 𝓜 𝓡 𝓡.env in
-    proved 𝓛 (end E) (stayed E) c 𝓜 𝓡 (Goes-dropped 𝓛 4 (RefOf (0 ∷ []) tt (plain (λ _. SlotR E)) (λ _. tt)) yes (λ κs x f. refl), (Goes-ref 𝓛 4 1 tt (plain (Loan E)), tt))
-    (#self (two_args E)) (fn' E) (code.unfolded 𝓤 𝓛.H 𝓜 𝓡 wired (K, (V, tt)))
+    proved 𝓛 (end E) (passing E) c 𝓜 𝓡 (Goes-dropped 𝓛 4 (RefOf (0 ∷ []) tt (plain (λ _. SlotR E)) (λ _. tt)) yes (λ κs x f. refl), (Goes-ref 𝓛 4 1 tt (plain (Loan E)), tt))
+    (#self (two_args E)) (routine E) (code.unfolded 𝓤 𝓛.H 𝓜 𝓡 wired (K, (V, tt)))
     (λ κs. (shr_vals, (mut_vals, tt))) (λ κs. (shr_Tells (named 0) κs.0 (SlotR E), (mut_Tells (named 1) κs.1.0 (Loan E κs), tt)))
     (λ κs qs bounds a g are. let s = a.0 in let l = a.1.0 in
     qed 𝓛 (raw (on_entry 𝓛 (end E).signature κs qs a (shr_vals s, (mut_vals l, tt))) ∷
