@@ -5,3 +5,5 @@ pub mod CommonLemmas
 pub mod SearchLemmas
 pub mod EqualityLemmas
 pub mod JoinLemmas
+pub mod GrowthLemmas
+pub mod SweepLemmas

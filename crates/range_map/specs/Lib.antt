@@ -3,3 +3,4 @@ pub mod Set
 pub mod SetLaws
 pub mod Merging
 pub mod Valued
+pub mod Sweep

@@ -6,11 +6,13 @@ mod callers;
 mod from_iter;
 #[cfg(test)]
 mod from_iter_tests;
+mod growing;
 mod iter;
 pub mod laws;
 mod merging;
 mod range;
 mod set;
+pub mod sweep;
 #[cfg(test)]
 mod tests;
 
