@@ -45,6 +45,10 @@ module _ {V : Type 0} (same : V → V → Bool) (eq : IsEquivalence same) (label
   pub swept_to : (list : List ((ℤ × ℤ) × V)) (a b : ℤ) → a ≡ b → IsSwept same label lo a list → IsSwept same label lo b list
   swept_to list a b e s = rw (← e) s
 
+  -- the same for another labelling with the same labels
+  pub swept_by : (other : ℤ → Option V) (list : List ((ℤ × ℤ) × V)) (n : ℤ) → ((y : ℤ) → other y ≡ label y) → IsSwept same label lo n list → IsSwept same other lo n list
+  swept_by other list n e s = record { values = λ x low high. rw (e x) (s.values x low high); behind = s.behind }
+
   -- one cell more, within which the label stays
   pub swept_further : (old new : List ((ℤ × ℤ) × V)) (r : ℤ × ℤ) (found : Option V) → IsSwept same label lo r.0 old → option_eq same found (label r.0) ≡ true
       → ((x : ℤ) → r.0 ≤ℤ x → x <ℤ r.1 → option_eq same (label x) (label (x +ℤ pos 1)) ≡ true)
@@ -61,6 +65,10 @@ module _ {V : Type 0} (same : V → V → Bool) (eq : IsEquivalence same) (label
           options.congr (value_at new x) found (label x) (l.inside x low high)
           ∙ (options.congr found (label r.0) (label x) answer
               ∙ stays_throughout (option_eq same) options label r.0 r.1 stays x low high)
+
+pub changes_by : {L : Type 0} (same : L → L → Bool) (label other : ℤ → L) (lo hi : ℤ) (cuts : List ℤ) → ((y : ℤ) → other y ≡ label y)
+    → ChangesAtCuts same label lo hi cuts → ChangesAtCuts same other lo hi cuts
+changes_by same label other lo hi cuts e changes x low high none = rw (e x, e (x +ℤ pos 1)) (changes x low high none)
 
 module _ {T : Type 0} (numbers : Numbering T) where
   -- no cut lies before the first

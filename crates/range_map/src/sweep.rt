@@ -54,7 +54,7 @@ fn push_cell<T: Element, V: Eq + Drop, L: Labelling<T, V>>(
 ) -> Result<(), NoMemory>
     requires map { IsMap T.numbers V.eq list.old.items }
     requires swept { IsSwept V.eq (L.label labels.old) T.numbers.least (T.numbers.number start) (pairs_in_numbers T.numbers list.old.items) }
-    requires may_enter { L.may_enter labels.old (T.numbers.number start) }
+    requires may_enter { (y : ℤ) → T.numbers.number start ≤ℤ y → L.may_enter labels.old y }
     requires order { T.numbers.number start ≤ℤ T.numbers.number end }
     requires stays { (x : ℤ) → T.numbers.number start ≤ℤ x → x <ℤ T.numbers.number end → option_eq V.eq (L.label labels.old x) (L.label labels.old (x +ℤ pos 1)) ≡ true }
     ensures map { OnOk result (IsMap T.numbers V.eq list.new.items) }
@@ -65,4 +65,62 @@ fn push_cell<T: Element, V: Eq + Drop, L: Labelling<T, V>>(
     let label = labels.enter(alloc, start)?;
     push_label(list, Range::new(start, end), label)?;
     Ok(())
+}
+
+/// Labels the numbers from `start` to below `cut`, which all have one label.
+fn push_up_to<T: Element, V: Eq + Drop, L: Labelling<T, V>>(
+    alloc: Global,
+    list: &mut Vec<(Range<T>, V)>,
+    labels: &mut L,
+    start: T,
+    cut: T,
+) -> Result<(), NoMemory>
+    requires map { IsMap T.numbers V.eq list.old.items }
+    requires swept { IsSwept V.eq (L.label labels.old) T.numbers.least (T.numbers.number start) (pairs_in_numbers T.numbers list.old.items) }
+    requires may_enter { (y : ℤ) → T.numbers.number start ≤ℤ y → L.may_enter labels.old y }
+    requires order { T.numbers.number start ≤ℤ T.numbers.number cut }
+    requires stays { (x : ℤ) → T.numbers.number start ≤ℤ x → (x +ℤ pos 1) <ℤ T.numbers.number cut → option_eq V.eq (L.label labels.old x) (L.label labels.old (x +ℤ pos 1)) ≡ true }
+    ensures map { OnOk result (IsMap T.numbers V.eq list.new.items) }
+    ensures swept { OnOk result (IsSwept V.eq (L.label labels.old) T.numbers.least (T.numbers.number cut) (pairs_in_numbers T.numbers list.new.items)) }
+    ensures same_labels { OnOk result ((y : ℤ) → L.label labels.new y ≡ L.label labels.old y) }
+    ensures goes_on { OnOk result ((y : ℤ) → T.numbers.number cut ≤ℤ y → L.may_enter labels.new y) }
+{
+    if !is_below(start, cut) {
+        return Ok(());
+    }
+    start.in_type();
+    match cut.predecessor() {
+        None => Ok(()),
+        Some(end) => push_cell(alloc, list, labels, start, end),
+    }
+}
+
+/// The canonical list of the labels: the value at each number is its label, and numbers without a label are left
+/// out. Of touching ranges with equal labels the first label stays.
+///
+/// `cuts` doesn't fall, and has each number at which the label isn't that of the number before it. `labels` is
+/// entered once at the least number and once at each different cut. Takes O(n) time for n cuts, beside what `enter`
+/// takes.
+pub fn sweep<T: Element, V: Eq + Drop, L: Labelling<T, V>>(
+    alloc: Global,
+    cuts: &[T],
+    labels: &mut L,
+) -> Result<Vec<(Range<T>, V)>, NoMemory>
+    requires in_order { DoNotFallFrom T.numbers T.numbers.least cuts.now }
+    requires changes { ChangesAtCuts (option_eq V.eq) (L.label labels.old) T.numbers.least T.numbers.greatest (numbers_of T.numbers cuts.now) }
+    requires may_enter { (y : ℤ) → T.numbers.least ≤ℤ y → L.may_enter labels.old y }
+    ensures are_ranges { IfOk result (λ list. AreValuedRanges T.numbers list.items) }
+    ensures canonical { IfOk result (λ list. IsCanonicalMap V.eq T.numbers.least T.numbers.greatest (pairs_in_numbers T.numbers list.items)) }
+    ensures values { IfOk result (λ list. HasValues V.eq (L.label labels.old) T.numbers.least T.numbers.greatest (pairs_in_numbers T.numbers list.items)) }
+{
+    let mut list = Vec::new(alloc);
+    let mut start = T::min_value();
+    let mut rest = cuts;
+    while let Some((cut, behind)) = rest.split_first() {
+        push_up_to(alloc, &mut list, labels, start, *cut)?;
+        start = *cut;
+        rest = behind;
+    }
+    push_cell(alloc, &mut list, labels, start, T::max_value())?;
+    Ok(list)
 }
