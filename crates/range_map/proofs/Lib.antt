@@ -7,3 +7,4 @@ pub mod EqualityLemmas
 pub mod JoinLemmas
 pub mod GrowthLemmas
 pub mod SweepLemmas
+pub mod BoundLemmas

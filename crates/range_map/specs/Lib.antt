@@ -4,3 +4,4 @@ pub mod SetLaws
 pub mod Merging
 pub mod Valued
 pub mod Sweep
+pub mod Bounds

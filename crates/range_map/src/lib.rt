@@ -1,6 +1,7 @@
 //! Inclusive ranges of a numbered type, and sets of its values kept as ranges.
 #![tactic(auto)]
 
+mod bounds;
 #[cfg(test)]
 mod callers;
 mod from_iter;
