@@ -1,21 +1,26 @@
 -- The bounds of several ranges, and the places of those that hold a number.
-use Rattle.std.proofs.Common.{◌≡◌, ℕ, zero, suc, ◌+◌, ◌<◌, ◌≤◌, List, [], ◌∷◌, ◌++◌, length, refl, ap, arith, sym, ◌∙◌}
-use Rattle.std.specs.Prelude.{◌==◌, ℤ, pos, ◌+ℤ◌, ◌≤ℤ◌, ◌<ℤ◌, Bool, true, false, not, ◌&&◌, ◌||◌, if◌then◌else◌, int_le, cond, map}
-use Rattle.std.specs.List.{list_any, sum_by, All}
+use Rattle.std.proofs.Common.{Bor, ◌≡◌, ℕ, zero, suc, ◌+◌, ◌-◌, ◌<◌, ◌≤◌, List, [], ◌∷◌, ◌++◌, length, refl, ap, arith, sym, ◌∙◌}
+use Rattle.std.specs.Prelude.{◌==◌, ℤ, pos, ◌+ℤ◌, ◌≤ℤ◌, ◌<ℤ◌, Bool, true, false, not, ◌&&◌, ◌||◌, if◌then◌else◌, int_le, cond, map, Option, Some, None, IfSome}
+use Rattle.std.specs.Option.{option_copied}
+use Rattle.std.specs.List.{list_any, sum_by, All, slice_get}
 use Rattle.std.specs.List.Sorted.{IsPermutation, IsSortedBy, IsStrictlySortedBy}
 use Rattle.std.specs.BTreeSet.{BTreeSet, contains, UpdatesBy}
 use Rattle.std.specs.BTreeMap.{is_at}
-use Rattle.std.specs.Ordering.{nat_cmp, int_cmp, is_lt}
+use Rattle.std.specs.Cmp.{IsEquivalence}
+use Rattle.std.specs.Ordering.{nat_cmp, int_cmp, int_eq, is_lt}
 use Rattle.std.specs.declared.cmp.Ordering.TheVariants.{Less}
 use Rattle.std.proofs.lemmas.Bool.{eqb-true}
 use Rattle.std.proofs.lemmas.Int.{ints}
+use Rattle.std.proofs.lemmas.List.{map-append}
 use Rattle.std.proofs.lemmas.List.Sums.{sum_by-cons}
-use Rattle.std.proofs.lemmas.List.Sorted.{sum_by-IsPermutation, IsPermutation-map}
+use Rattle.std.proofs.lemmas.List.Elements.{All-tail}
+use Rattle.std.proofs.lemmas.List.Sorted.{sum_by-IsPermutation, IsPermutation-map, All-permutation}
+use Rattle.std.specs.declared.cmp.Ordering.{Ordering}
 use Rattle.element_core.specs.Numbering.{Numbering, IsNumbering}
 use Rattle.number_line.specs.Ranges.{lies_in}
 use Rattle.range_map.specs.declared.bounds.Bound.{Bound}
 use Rattle.range_map.specs.Range.{IsRange, in_numbers}
-use Rattle.range_map.specs.Sweep.{DoNotFallFrom}
+use Rattle.range_map.specs.Sweep.{DoNotFallFrom, is_cut, ChangesAtCuts}
 use Rattle.range_map.specs.Bounds.{xor, lies_at_from, lies_at, places_from, places_at, bound_in_numbers, bounds_in_numbers, is_passed, crossed, AreBounds, AreBoundsPushed, Active, has_place, AreActive}
 
 -- ---- the set of places
@@ -190,3 +195,219 @@ module _ (greatest : ℤ) where
       at : (start end : Bool) → end ≡ true → xor (crossed old other x) ((place == other) && start) ≡ xor (crossed old other x) ((place == other) && (start && end))
       at true end e = rw e
       at false end e = refl
+
+-- ---- the same for bounds of a numbered type
+
+module _ {T : Type 0} (numbers : Numbering T) where
+  pub bounds-push : (list : List (Bound T)) (bound : Bound T) → bounds_in_numbers numbers (list ++ bound ∷ []) ≡ bounds_in_numbers numbers list ++ bound_in_numbers numbers bound ∷ []
+  bounds-push list bound = map-append (bound_in_numbers numbers) list (bound ∷ [])
+
+  abbrev pub AreValues : List (Bound T) → Type 0
+  AreValues list = All (λ bound. numbers.IsValue bound.at) list
+
+  pub push_two : (old mid new : List (Bound T)) (a b : Bound T) (r : T × T) (place : ℕ) → mid ≡ old ++ a ∷ [] → new ≡ mid ++ b ∷ []
+      → bound_in_numbers numbers a ≡ (numbers.number r.0, place) → bound_in_numbers numbers b ≡ (numbers.number r.1 +ℤ pos 1, place)
+      → numbers.number r.0 ≤ℤ numbers.number r.1
+      → AreBoundsPushed numbers.greatest (bounds_in_numbers numbers old) (in_numbers numbers r) place (bounds_in_numbers numbers new)
+  push_two old mid new a b r place is_mid is_new is_a is_b ordered =
+      rw (is_new, is_mid, bounds-push (old ++ a ∷ []) b, bounds-push old a, is_a, is_b)
+        (two_pushed numbers.greatest (bounds_in_numbers numbers old) (in_numbers numbers r) place ordered)
+
+  pub push_one : (old new : List (Bound T)) (a : Bound T) (r : T × T) (place : ℕ) → new ≡ old ++ a ∷ []
+      → bound_in_numbers numbers a ≡ (numbers.number r.0, place) → numbers.number r.1 ≡ numbers.greatest
+      → AreBoundsPushed numbers.greatest (bounds_in_numbers numbers old) (in_numbers numbers r) place (bounds_in_numbers numbers new)
+  push_one old new a r place is_new is_a last =
+      rw (is_new, bounds-push old a, is_a) (one_pushed numbers.greatest (bounds_in_numbers numbers old) (in_numbers numbers r) place last)
+
+  pub values_permuted : (old new : List (Bound T)) → IsPermutation old new → AreValues old → AreValues new
+  values_permuted old new moved values = All-permutation (λ bound. numbers.IsValue bound.at) old new moved values
+
+  not_less : (a b : ℤ) → is_lt (int_cmp b a) ≡ false → a ≤ℤ b
+  not_less a b h = grind (arith, ints)
+
+  abbrev pub ByNumber : Bound T → Bound T → Bool
+  ByNumber a b = is_lt (int_cmp (numbers.number a.at) (numbers.number b.at))
+
+  module _ (cmp : T → T → Ordering) (numbered : IsNumbering cmp numbers) where
+    from_first : (n : ℤ) (bound : Bound T) (rest : List (Bound T)) → n ≤ℤ numbers.number bound.at → AreValues (bound ∷ rest)
+        → IsSortedBy ByNumber (bound ∷ rest) → DoNotFallFrom numbers n (map (λ b. b.at) (bound ∷ rest))
+    from_first n bound [] low values sorted = let value = values 0 bound (omega arith) in (value, low, numbered.high bound.at value, tt)
+    from_first n bound (next ∷ rest) low values sorted =
+        let value = values 0 bound (omega arith) in
+        (value, low, numbered.high bound.at value,
+          from_first (numbers.number bound.at) next rest
+              (not_less (numbers.number bound.at) (numbers.number next.at) (sorted 0 bound (omega arith) (omega arith)))
+              (All-tail (λ b. numbers.IsValue b.at) bound (next ∷ rest) values)
+              (λ k d low lt. let one_on : suc k + 1 ≡ suc (k + 1) = omega arith in rw one_on at (sorted (suc k) d (omega arith) (omega arith))))
+
+    -- sorted by their numbers
+    pub sorted_do_not_fall : (list : List (Bound T)) → AreValues list → IsSortedBy ByNumber list → DoNotFallFrom numbers numbers.least (map (λ b. b.at) list)
+    sorted_do_not_fall [] values sorted = tt
+    sorted_do_not_fall (bound ∷ rest) values sorted =
+        from_first numbers.least bound rest (numbered.low bound.at (values 0 bound (omega arith))) values sorted
+
+-- ---- all bounds, whatever their order
+
+-- what is told by the bounds so far and by the ranges to come, one range further
+pub bounds_step : (greatest : ℤ) (n m : ℕ) (r : ℤ × ℤ) (left rest all : List (ℤ × ℤ)) (old new : List (ℤ × ℕ)) → m ≡ suc n → left ≡ r ∷ rest → AreBoundsPushed greatest old r n new
+    → ((place : ℕ) (x : ℤ) → x ≤ℤ greatest → xor (crossed old place x) (lies_at_from n left place x) ≡ lies_at all place x)
+    → (place : ℕ) (x : ℤ) → x ≤ℤ greatest → xor (crossed new place x) (lies_at_from m rest place x) ≡ lies_at all place x
+bounds_step greatest n m r left rest all old new next is pushed told place x high =
+    rw (next, pushed place x high) (by_case (n == place) refl ∙ (rw is at (told place x high)))
+  where
+    apart : (a b : Bool) → xor (xor a b) false ≡ xor a b
+    apart true true = refl
+    apart true false = refl
+    apart false true = refl
+    apart false false = refl
+    by_case : (b : Bool) → (n == place) ≡ b
+        → xor (xor (crossed old place x) (b && lies_in r x)) (lies_at_from (suc n) rest place x)
+        ≡ xor (crossed old place x) (if b then lies_in r x else lies_at_from (suc n) rest place x)
+    by_case true e =
+        let one : n ≡ place = same_place n place e in
+        rw (← one, lies_at_earlier n (suc n) rest x (omega arith)) (apart (crossed old n x) (lies_in r x))
+    by_case false e = ap (λ b. xor b (lies_at_from (suc n) rest place x)) (xor_false (crossed old place x))
+      where
+        xor_false : (b : Bool) → xor b false ≡ b
+        xor_false true = refl
+        xor_false false = refl
+
+odd : ℕ → Bool
+odd zero = false
+odd (suc n) = not (odd n)
+
+module _ (place : ℕ) (x : ℤ) where
+  abbrev passes : ℤ × ℕ → ℕ
+  passes bound = cond (is_passed place x bound) 1 0
+
+  crossed_is_odd : (bounds : List (ℤ × ℕ)) → crossed bounds place x ≡ odd (sum_by passes bounds)
+  unfolding odd
+  crossed_is_odd [] = refl
+  crossed_is_odd (bound ∷ rest) = rw (sum_by-cons passes bound rest, crossed_is_odd rest) (one_more (is_passed place x bound) (sum_by passes rest))
+    where
+      one_more : (b : Bool) (n : ℕ) → xor b (odd n) ≡ odd (cond b 1 0 + n)
+      one_more true n = let e : 1 + n ≡ suc n = omega arith in rw e
+      one_more false n = let e : 0 + n ≡ n = omega arith in rw e
+
+  pub crossed_permuted : (old new : List (ℤ × ℕ)) → IsPermutation old new → crossed new place x ≡ crossed old place x
+  crossed_permuted old new moved = crossed_is_odd new ∙ (ap odd (sum_by-IsPermutation passes old new moved) ∙ sym (crossed_is_odd old))
+
+-- all bounds, sorted
+pub bounds_sorted : {T : Type 0} (numbers : Numbering T) (all : List (ℤ × ℤ)) (n : ℕ) (left : List (ℤ × ℤ)) (old new : List (Bound T)) → left ≡ [] → IsPermutation old new
+    → ((place : ℕ) (x : ℤ) → x ≤ℤ numbers.greatest → xor (crossed (bounds_in_numbers numbers old) place x) (lies_at_from n left place x) ≡ lies_at all place x)
+    → AreBounds numbers.greatest all (bounds_in_numbers numbers new)
+bounds_sorted numbers all n left old new none moved told place x high =
+    crossed_permuted place x (bounds_in_numbers numbers old) (bounds_in_numbers numbers new) (IsPermutation-map (bound_in_numbers numbers) old new moved)
+    ∙ (xor_false (crossed (bounds_in_numbers numbers old) place x) ∙ (rw none at (told place x high)))
+  where
+    xor_false : (b : Bool) → b ≡ xor b false
+    xor_false true = refl
+    xor_false false = refl
+
+-- ---- going on to a number
+
+module _ (greatest : ℤ) (ranges : List (ℤ × ℤ)) (n : ℤ) where
+  -- a bound that is passed
+  pub active_step : (places new : List ℕ) (bound : ℤ × ℕ) (left rest : List (ℤ × ℕ)) → left ≡ bound ∷ rest → bound.0 ≤ℤ n
+      → ((other : ℕ) → has_place new other ≡ xor (bound.1 == other) (has_place places other))
+      → AreActive greatest ranges n (record { places = places; rest = left }) → AreActive greatest ranges n (record { places = new; rest = rest })
+  active_step places new bound left rest is passed over active place x low high =
+      let at_most : int_le bound.0 x ≡ true = grind (arith, ints) in
+      rw (over place) (regroup (bound.1 == place) (has_place places place) (crossed rest place x) (int_le bound.0 x) at_most ∙ (rw is at (active place x low high)))
+    where
+      regroup : (b h c l : Bool) → l ≡ true → xor (xor b h) c ≡ xor h (xor (b && l) c)
+      regroup true true true l e = rw e refl
+      regroup true true false l e = rw e refl
+      regroup true false c l e = rw e refl
+      regroup false h c l e = refl
+
+  -- where no bound is left up to n, the places are those at n
+  pub active_places : (places : List ℕ) (rest : List (ℤ × ℕ)) → IsStrictlySortedBy nat_cmp places → n ≤ℤ greatest → ((place : ℕ) → crossed rest place n ≡ false)
+      → AreActive greatest ranges n (record { places = places; rest = rest }) → places ≡ places_at ranges n
+  active_places places rest ascending high none active =
+      only_places 0 ranges n places (ascend_from_sorted places ascending) (λ place.
+          xor_false (has_place places place) ∙ (ap (xor (has_place places place)) (sym (none place)) ∙ active place n (omega (arith, ints)) high))
+    where
+      xor_false : (b : Bool) → b ≡ xor b false
+      xor_false true = refl
+      xor_false false = refl
+
+module _ {T : Type 0} (numbers : Numbering T) where
+  pub do_not_fall-lower : (n m : ℤ) (list : List T) → n ≤ℤ m → DoNotFallFrom numbers m list → DoNotFallFrom numbers n list
+  do_not_fall-lower n m [] h d = tt
+  do_not_fall-lower n m (first ∷ rest) h d = (d.0, omega (arith, ints), d.2, d.3)
+
+  -- no bound lies below those that don't fall
+  pub crossed_before : (n x : ℤ) (list : List (Bound T)) (place : ℕ) → DoNotFallFrom numbers n (map (λ bound. bound.at) list) → x <ℤ n
+      → crossed (bounds_in_numbers numbers list) place x ≡ false
+  crossed_before n x [] place d h = refl
+  crossed_before n x (bound ∷ rest) place d h =
+      let later : int_le (numbers.number bound.at) x ≡ false = grind (arith, ints) in
+      rw (later, crossed_before (numbers.number bound.at) x rest place d.3 (omega (arith, ints))) (nothing (bound.place == place))
+    where
+      nothing : (b : Bool) → xor (b && false) false ≡ false
+      nothing true = refl
+      nothing false = refl
+
+-- ---- what depends on the places alone
+
+pub same_places : (n : ℕ) (ranges : List (ℤ × ℤ)) (x y : ℤ) → ((place : ℕ) → lies_at_from n ranges place x ≡ lies_at_from n ranges place y) → places_from n ranges x ≡ places_from n ranges y
+same_places n [] x y h = refl
+same_places n (r ∷ rest) x y h =
+    let itself : (n == n) ≡ true = grind arith in
+    let here : lies_in r x ≡ lies_in r y = rw itself at (h n) in
+    rw (here, same_places (suc n) rest x y (λ place. others place (n == place) refl))
+  where
+    others : (place : ℕ) (b : Bool) → (n == place) ≡ b → lies_at_from (suc n) rest place x ≡ lies_at_from (suc n) rest place y
+    others place true e =
+        let one : n ≡ place = same_place n place e in
+        rw (← one) (lies_at_earlier n (suc n) rest x (omega arith) ∙ sym (lies_at_earlier n (suc n) rest y (omega arith)))
+    others place false e = rw e at (h place)
+
+-- where no bound lies at the next number, the same bounds are passed there
+crossed_on : (bounds : List (ℤ × ℕ)) (x : ℤ) → is_cut (map (λ bound. bound.0) bounds) (x +ℤ pos 1) ≡ false → (place : ℕ) → crossed bounds place x ≡ crossed bounds place (x +ℤ pos 1)
+crossed_on [] x none place = refl
+crossed_on (bound ∷ rest) x none place =
+    let both = neither (int_eq bound.0 (x +ℤ pos 1)) (is_cut (map (λ b. b.0) rest) (x +ℤ pos 1)) none in
+    let passed : int_le bound.0 x ≡ int_le bound.0 (x +ℤ pos 1) = on bound.0 both.0 in
+    rw (passed, crossed_on rest x both.1 place)
+  where
+    neither : (a b : Bool) → (a || b) ≡ false → (a ≡ false) × (b ≡ false)
+    neither true b h = absurd (cc)
+    neither false b h = (refl, h)
+    on : (n : ℤ) → int_eq n (x +ℤ pos 1) ≡ false → int_le n x ≡ int_le n (x +ℤ pos 1)
+    on n h = grind (arith, ints)
+
+-- a label that the places give changes at the bounds alone
+pub changes_at_bounds : {L : Type 0} (same : L → L → Bool) → IsEquivalence same → (label : ℤ → L) (lo greatest : ℤ) (ranges : List (ℤ × ℤ)) (bounds : List (ℤ × ℕ)) (cuts : List ℤ)
+    → AreBounds greatest ranges bounds → cuts ≡ map (λ bound. bound.0) bounds
+    → ((x y : ℤ) → places_at ranges x ≡ places_at ranges y → label x ≡ label y)
+    → ChangesAtCuts same label lo greatest cuts
+changes_at_bounds same eq label lo greatest ranges bounds cuts are is by_places x low high none =
+    let unchanged = crossed_on bounds x (rw is at none) in
+    let places : places_at ranges x ≡ places_at ranges (x +ℤ pos 1) =
+        same_places 0 ranges x (x +ℤ pos 1) (λ place. sym (are place x (omega (arith, ints))) ∙ (unchanged place ∙ are place (x +ℤ pos 1) (omega (arith, ints)))) in
+    rw (by_places x (x +ℤ pos 1) places) (eq.refl (label (x +ℤ pos 1)))
+
+-- ---- cuts and the last place
+
+-- the values of bounds, in numbers
+pub cuts_of_bounds : {T : Type 0} (numbers : Numbering T) (list : List (Bound T)) → map numbers.number (map (λ bound. bound.at) list) ≡ map (λ bound. bound.0) (bounds_in_numbers numbers list)
+cuts_of_bounds numbers [] = refl
+cuts_of_bounds numbers (bound ∷ rest) = ap (λ left. numbers.number bound.at ∷ left) (cuts_of_bounds numbers rest)
+
+splits_at_last : (places : List ℕ) (last : ℕ) → slice_get places (length places - 1) ≡ Some last → (front : List ℕ) × (places ≡ front ++ last ∷ [])
+splits_at_last [] last h = absurd (cc)
+splits_at_last (k ∷ []) last h =
+    let first : slice_get (k ∷ []) 0 ≡ Some last = h in
+    let one : k ≡ last = cc in
+    ([], ap (λ m. m ∷ []) one)
+splits_at_last (k ∷ l ∷ rest) last h =
+    let further : length (k ∷ l ∷ rest) - 1 ≡ suc (length (l ∷ rest) - 1) = omega arith in
+    let more = splits_at_last (l ∷ rest) last (rw further at h) in
+    (k ∷ more.0, ap (λ left. k ∷ left) more.1)
+
+pub copied_last : (places : List ℕ) (last : Option (Bor ℕ)) → IfSome last (λ place. slice_get places (length places - 1) ≡ Some place.now)
+    → IfSome (option_copied last) (λ place. (front : List ℕ) × (places ≡ front ++ place ∷ []))
+copied_last places None h = tt
+copied_last places (Some place) h = splits_at_last places place.now h

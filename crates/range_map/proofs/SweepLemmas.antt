@@ -49,22 +49,28 @@ module _ {V : Type 0} (same : V → V → Bool) (eq : IsEquivalence same) (label
   pub swept_by : (other : ℤ → Option V) (list : List ((ℤ × ℤ) × V)) (n : ℤ) → ((y : ℤ) → other y ≡ label y) → IsSwept same label lo n list → IsSwept same other lo n list
   swept_by other list n e s = record { values = λ x low high. rw (e x) (s.values x low high); behind = s.behind }
 
+  -- one range more, whose label is that of each of its numbers
+  pub swept_range : (old new : List ((ℤ × ℤ) × V)) (r : ℤ × ℤ) (found : Option V) → IsSwept same label lo r.0 old
+      → ((x : ℤ) → r.0 ≤ℤ x → x ≤ℤ r.1 → option_eq same found (label x) ≡ true)
+      → IsLabelled same old r found new → IsSwept same label lo (r.1 +ℤ pos 1) new
+  swept_range old new r found s answer l = record {
+    values = λ x low high. by_lt_z x r.0 (λ before. rw (l.below x before) (s.values x low before)) (λ within.
+        (options_equiv eq).congr (value_at new x) found (label x) (l.inside x within (omega (arith, ints))) ∙ answer x within (omega (arith, ints)));
+    behind = l.behind;
+  }
+
   -- one cell more, within which the label stays
   pub swept_further : (old new : List ((ℤ × ℤ) × V)) (r : ℤ × ℤ) (found : Option V) → IsSwept same label lo r.0 old → option_eq same found (label r.0) ≡ true
       → ((x : ℤ) → r.0 ≤ℤ x → x <ℤ r.1 → option_eq same (label x) (label (x +ℤ pos 1)) ≡ true)
       → IsLabelled same old r found new → IsSwept same label lo (r.1 +ℤ pos 1) new
-  swept_further old new r found s answer stays l = record {
-    values = λ x low high. by_lt_z x r.0 (λ before. rw (l.below x before) (s.values x low before)) (λ within. inside x within (omega (arith, ints)));
-    behind = l.behind;
-  }
+  swept_further old new r found s answer stays l = swept_range old new r found s throughout l
     where
       options : IsEquivalence (option_eq same)
       options = options_equiv eq
-      inside : (x : ℤ) → r.0 ≤ℤ x → x ≤ℤ r.1 → option_eq same (value_at new x) (label x) ≡ true
-      inside x low high =
-          options.congr (value_at new x) found (label x) (l.inside x low high)
-          ∙ (options.congr found (label r.0) (label x) answer
-              ∙ stays_throughout (option_eq same) options label r.0 r.1 stays x low high)
+      throughout : (x : ℤ) → r.0 ≤ℤ x → x ≤ℤ r.1 → option_eq same found (label x) ≡ true
+      throughout x low high =
+          options.congr found (label r.0) (label x) answer
+          ∙ stays_throughout (option_eq same) options label r.0 r.1 stays x low high
 
 pub changes_by : {L : Type 0} (same : L → L → Bool) (label other : ℤ → L) (lo hi : ℤ) (cuts : List ℤ) → ((y : ℤ) → other y ≡ label y)
     → ChangesAtCuts same label lo hi cuts → ChangesAtCuts same other lo hi cuts

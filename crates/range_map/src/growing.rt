@@ -33,8 +33,8 @@ fn goes_on<T: Element, V: Eq>(last: &(Range<T>, V), next: &Range<T>, value: &V) 
 }
 
 /// Puts `range` with its value behind the ranges of `list`, which all end below it. Where it goes on in the last of
-/// them with the same value, the two become one range, and the value that was there stays.
-pub(crate) fn push_value<T: Element, V: Eq + Drop>(
+/// them with the same value, the two become one range, and the value that was there stays. Takes O(1) amortised time.
+pub fn push_value<T: Element, V: Eq + Drop>(
     list: &mut Vec<(Range<T>, V)>,
     range: Range<T>,
     value: V,
