@@ -1,4 +1,6 @@
 pub mod Ranges
 pub mod Segments
 pub mod Valued
+pub mod Kept
+pub mod ValuedLaws
 pub mod Laws

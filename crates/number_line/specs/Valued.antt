@@ -5,7 +5,6 @@ use Rattle.std.specs.Option.{option_eq}
 use Rattle.std.specs.Ordering.{int_eq}
 use Rattle.number_line.specs.Ranges.{lies_in}
 
-
 -- the value at x: that of the first pair whose range holds x, or none
 abbrev pub value_at : {V : Type 0} → List ((ℤ × ℤ) × V) → ℤ → Option V
 value_at [] x = None

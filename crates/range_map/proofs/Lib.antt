@@ -5,6 +5,7 @@ pub mod CommonLemmas
 pub mod SearchLemmas
 pub mod EqualityLemmas
 pub mod JoinLemmas
+pub mod DividedLemmas
 pub mod GrowthLemmas
 pub mod SweepLemmas
 pub mod BoundLemmas

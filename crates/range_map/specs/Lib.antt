@@ -3,5 +3,7 @@ pub mod Set
 pub mod SetLaws
 pub mod Merging
 pub mod Valued
+pub mod MapLaws
+pub mod MapError
 pub mod Sweep
 pub mod Bounds

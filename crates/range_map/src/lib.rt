@@ -1,4 +1,5 @@
-//! Inclusive ranges of a numbered type, and sets of its values kept as ranges.
+//! Inclusive ranges of a numbered type, sets of its values kept as ranges, and maps from them kept as ranges with a
+//! value each.
 #![tactic(auto)]
 
 mod bounds;
@@ -10,6 +11,12 @@ mod from_iter_tests;
 mod growing;
 mod iter;
 pub mod laws;
+mod map;
+mod map_compared;
+mod map_error;
+mod map_from_iter;
+#[cfg(test)]
+mod map_tests;
 mod merging;
 mod range;
 mod set;
@@ -18,5 +25,7 @@ pub mod sweep;
 mod tests;
 
 pub use iter::RangeIter;
+pub use map::RangeMap;
+pub use map_error::{OverlapError, TryFromIterError};
 pub use range::Range;
 pub use set::RangeSet;

@@ -1,0 +1,86 @@
+//! Maps from the values of a numbered type, kept as ranges with a value each.
+ghost use Rattle.std.specs.Prelude.{◌≡◌, ◌<◌, ◌^◌, [], length, IsTrue, ◌↔◌};
+ghost use Rattle.std.specs.Option.{option_copied};
+ghost use Rattle.std.specs.Slice.Iter.{iter_rest};
+ghost use Rattle.number_line.specs.Valued.{value_at, IsCanonicalMap};
+ghost use Rattle.range_map.specs.Valued.{pairs_in_numbers};
+
+use crate::range::Range;
+use element_core::Element;
+use std::alloc::Global;
+use std::marker::Model;
+use std::slice::Iter;
+
+/// A map from keys of the type `T` to values, kept as ascending ranges of keys with a value each. No two ranges
+/// overlap, and ranges that touch have different values.
+///
+/// Contracts see a map as the list of its ranges in numbers with their values, and `value_at` says which value a
+/// key has. Two maps with equal values at each key are equal.
+#[derive(Debug, Drop)]
+pub struct RangeMap<T: Element, V: Eq> {
+    pub(crate) pairs: Vec<(Range<T>, V)>,
+}
+
+impl<T: Element, V: Eq> Model for RangeMap<T, V> {
+    ghost use Rattle.std.specs.Prelude.{ℤ, List};
+    ghost use Rattle.range_map.specs.Valued.{pairs_in_numbers, IsMap};
+
+    ghost Value = { List ((ℤ × ℤ) × V) };
+
+    ghost view = { λ map. pairs_in_numbers T.numbers map.pairs.items };
+
+    ghost invariant = { λ map. IsMap T.numbers V.eq map.pairs.items };
+}
+
+impl<T: Element, V: Eq> RangeMap<T, V> {
+    /// The empty map. Takes O(1) time and no memory.
+    pub fn new(alloc: Global) -> Self
+        ensures { result ≡ [] }
+    {
+        RangeMap {
+            pairs: Vec::new(alloc),
+        }
+    }
+
+    /// Whether no key has a value. Takes O(1) time and no memory.
+    pub fn is_empty(&self) -> bool
+        ensures { IsTrue result ↔ (self.now ≡ []) }
+    {
+        self.pairs.is_empty()
+    }
+
+    /// The number of ranges. Takes O(1) time and no memory.
+    pub fn num_ranges(&self) -> usize
+        ensures { result ≡ length self.now }
+    {
+        self.pairs.len()
+    }
+
+    /// The ranges with their values, ascending, from both ends. Takes O(1) time and no memory.
+    pub fn ranges_values(&self) -> Iter<'_, (Range<T>, V)>
+        ensures list { pairs_in_numbers T.numbers (iter_rest result) ≡ self.now }
+        ensures canonical { IsCanonicalMap V.eq T.numbers.least T.numbers.greatest self.now }
+        ensures bound { length (iter_rest result) < 2 ^ 64 }
+    {
+        self.pairs.iter()
+    }
+
+    /// The value at the key `x`, or `None` where it has none. Takes O(log n) time for n ranges, and no memory.
+    pub fn get(&self, x: T) -> Option<&V>
+        ensures { option_copied result ≡ value_at self.now (T.numbers.number x) }
+    {
+        let found = self.pairs.binary_search_by(|pair| pair.0.cmp_element(x));
+        match found {
+            Ok(at) => Some(&self.pairs[at].1),
+            Err(_) => None,
+        }
+    }
+
+    /// The ranges with their values, ascending. Takes O(1) time and no memory.
+    pub fn into_vec(self) -> Vec<(Range<T>, V)>
+        ensures list { pairs_in_numbers T.numbers result.items ≡ self }
+        ensures canonical { IsCanonicalMap V.eq T.numbers.least T.numbers.greatest self }
+    {
+        self.pairs
+    }
+}
