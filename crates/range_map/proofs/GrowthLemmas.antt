@@ -9,22 +9,11 @@ use Rattle.std.proofs.lemmas.List.{map-append}
 use Rattle.element_core.specs.Numbering.{Numbering}
 use Rattle.number_line.specs.Ranges.{lies_in}
 use Rattle.number_line.specs.Valued.{value_at, StopsBefore, IsCanonicalMap}
+use Rattle.number_line.proofs.ValuedLemmas.{inside, before, behind}
 use Rattle.range_map.specs.Range.{IsRange, in_numbers}
 use Rattle.range_map.specs.Valued.{pair_in_numbers, pairs_in_numbers, AreValuedRanges, IsMap}
 use Rattle.range_map.specs.Sweep.{EndBelow, IsLabelled}
-
-pub lies_inside : (r : ℤ × ℤ) (x : ℤ) → r.0 ≤ℤ x → x ≤ℤ r.1 → lies_in r x ≡ true
-lies_inside r x low high = grind (arith, ints)
-
-pub lies_before : (r : ℤ × ℤ) (x : ℤ) → x <ℤ r.0 → lies_in r x ≡ false
-lies_before r x h = let low : int_le r.0 x ≡ false = grind (arith, ints) in rw low
-
-pub lies_behind : (r : ℤ × ℤ) (x : ℤ) → r.1 <ℤ x → lies_in r x ≡ false
-lies_behind r x h = let high : int_le x r.1 ≡ false = grind (arith, ints) in both (int_le r.0 x) (int_le x r.1) high
-  where
-    both : (a b : Bool) → b ≡ false → (a && b) ≡ false
-    both true b e = e
-    both false b e = refl
+use Rattle.range_map.proofs.DividedLemmas.{valued-push}
 
 module _ {V : Type 0} where
   -- what one pair gives alone
@@ -44,7 +33,7 @@ module _ {V : Type 0} where
   -- behind its ends a list has no value
   pub no_value_from : (n : ℤ) (list : List ((ℤ × ℤ) × V)) (x : ℤ) → EndBelow n list → n ≤ℤ x → value_at list x ≡ None
   no_value_from n [] x e h = refl
-  no_value_from n (p ∷ rest) x e h = rw (lies_behind p.0 x (omega (arith, ints))) (no_value_from n rest x e.1 h)
+  no_value_from n (p ∷ rest) x e h = rw (behind p.0 x (omega (arith, ints))) (no_value_from n rest x e.1 h)
 
   pub end_below-raise : (n m : ℤ) (list : List ((ℤ × ℤ) × V)) → n ≤ℤ m → EndBelow n list → EndBelow m list
   end_below-raise n m [] h e = tt
@@ -92,8 +81,8 @@ module _ {V : Type 0} (same : V → V → Bool) (eq : IsEquivalence same) where
   -- a pair behind all others
   pub labelled-push : (list : List ((ℤ × ℤ) × V)) (p : (ℤ × ℤ) × V) → EndBelow p.0.0 list → p.0.0 ≤ℤ p.0.1 → IsLabelled same list p.0 (Some p.1) (list ++ p ∷ [])
   labelled-push list p e ordered = record {
-    below = λ x h. value_at-push list p x ∙ rw (lies_before p.0 x h) (or_none (value_at list x));
-    inside = λ x low high. rw (value_at-push list p x, no_value_from p.0.0 list x e low, lies_inside p.0 x low high) (eq.refl p.1);
+    below = λ x h. value_at-push list p x ∙ rw (before p.0 x h) (or_none (value_at list x));
+    inside = λ x low high. rw (value_at-push list p x, no_value_from p.0.0 list x e low, inside p.0 x low high) (eq.refl p.1);
     behind = end_below-push (p.0.1 +ℤ pos 1) list p (end_below-raise p.0.0 (p.0.1 +ℤ pos 1) list (omega (arith, ints)) e) (omega (arith, ints));
   }
     where
@@ -109,7 +98,7 @@ module _ {V : Type 0} (same : V → V → Bool) (eq : IsEquivalence same) where
       let ends = end_below-pop r.0 list last e in
       record {
         below = λ x h. value_at-push list p x ∙ (ap (λ o. option_or (value_at list x) o) (alike x h) ∙ sym (value_at-push list last x));
-        inside = λ x low high. rw (value_at-push list p x, no_value_from r.0 list x ends.0 low, lies_inside p.0 x (omega (arith, ints)) (omega (arith, ints)), kept) equal;
+        inside = λ x low high. rw (value_at-push list p x, no_value_from r.0 list x ends.0 low, inside p.0 x (omega (arith, ints)) (omega (arith, ints)), kept) equal;
         behind = end_below-push (r.1 +ℤ pos 1) list p (end_below-raise r.0 (r.1 +ℤ pos 1) list (omega (arith, ints)) ends.0) (omega (arith, ints));
       }
     where
@@ -131,10 +120,6 @@ greater a b h = grind (arith, ints)
 module _ {T V : Type 0} (numbers : Numbering T) where
   pub in_numbers-push : (list : List ((T × T) × V)) (p : (T × T) × V) → pairs_in_numbers numbers (list ++ p ∷ []) ≡ pairs_in_numbers numbers list ++ pair_in_numbers numbers p ∷ []
   in_numbers-push list p = map-append (pair_in_numbers numbers) list (p ∷ [])
-
-  pub valued_ranges-push : (list : List ((T × T) × V)) (p : (T × T) × V) → AreValuedRanges numbers list → IsRange numbers p.0 → AreValuedRanges numbers (list ++ p ∷ [])
-  valued_ranges-push [] p all r = (r, tt)
-  valued_ranges-push (q ∷ list) p all r = (all.0, valued_ranges-push list p all.1 r)
 
   pub valued_ranges-pop : (list : List ((T × T) × V)) (p : (T × T) × V) → AreValuedRanges numbers (list ++ p ∷ []) → AreValuedRanges numbers list × IsRange numbers p.0
   valued_ranges-pop [] p all = (tt, all.0)
@@ -162,7 +147,7 @@ module _ {T V : Type 0} (numbers : Numbering T) where
         both : IsMap numbers same (old ++ p ∷ []) × IsLabelled same (pairs_in_numbers numbers old) (in_numbers numbers range) (Some value) (pairs_in_numbers numbers (old ++ p ∷ []))
         both = (
           record {
-            are_ranges = valued_ranges-push old p map.are_ranges r;
+            are_ranges = valued-push numbers old p map.are_ranges r;
             canonical = rw (in_numbers-push old p, seen) (canonical_map-push same numbers.greatest numbers.least (pairs_in_numbers numbers rest) (pair_in_numbers numbers last) (pair_in_numbers numbers p)
                 (rw seen at map.canonical) behind r.ordered high stops);
           },
@@ -197,7 +182,7 @@ module _ {T V : Type 0} (numbers : Numbering T) where
         both : IsMap numbers same (rest ++ p ∷ []) × IsLabelled same (pairs_in_numbers numbers old) (in_numbers numbers range) (Some value) (pairs_in_numbers numbers (rest ++ p ∷ []))
         both = (
           record {
-            are_ranges = valued_ranges-push rest p (valued_ranges-pop rest last (rw is_old at map.are_ranges)).0 covers;
+            are_ranges = valued-push numbers rest p (valued_ranges-pop rest last (rw is_old at map.are_ranges)).0 covers;
             canonical = rw (in_numbers-push rest p) (canonical_map-grow same numbers.greatest numbers.least (pairs_in_numbers numbers rest) (pair_in_numbers numbers last) (pair_in_numbers numbers p)
                 canonical starts refl (omega (arith, ints, ends, ordered)) (omega (arith, ints, ends)));
           },
