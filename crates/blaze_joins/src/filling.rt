@@ -54,6 +54,7 @@ impl<T: Element, V: Eq + Clone + Drop> RangeMapBlaze<T, V> {
             }
             rest = behind;
         }
+        start.in_type();
         push_value(&mut filled, Range::new(start, T::max_value()), None)?;
         Ok(RangeMapBlaze { pairs: filled })
     }

@@ -2,7 +2,7 @@
 use Rattle.std.proofs.Common.{Bor, ◌≡◌, ℕ, zero, suc, ◌+◌, ◌-◌, ◌<◌, ◌≤◌, List, [], ◌∷◌, ◌++◌, length, refl, ap, arith, sym, ◌∙◌}
 use Rattle.std.specs.Prelude.{◌==◌, ℤ, pos, ◌+ℤ◌, ◌≤ℤ◌, ◌<ℤ◌, Bool, true, false, not, ◌&&◌, ◌||◌, if◌then◌else◌, int_le, cond, map, Option, Some, None, IfSome}
 use Rattle.std.specs.Option.{option_copied}
-use Rattle.std.specs.List.{list_any, sum_by, All, slice_get}
+use Rattle.std.specs.List.{list_any, sum_by, All, AllByRecursion, slice_get}
 use Rattle.std.specs.List.Sorted.{IsPermutation, IsSortedBy, IsStrictlySortedBy}
 use Rattle.std.specs.BTreeSet.{BTreeSet, contains, UpdatesBy}
 use Rattle.std.specs.BTreeMap.{is_at}
@@ -349,14 +349,18 @@ module _ {T : Type 0} (numbers : Numbering T) where
       nothing true = refl
       nothing false = refl
 
--- ---- what depends on the places alone
+-- ---- what depends alone on which ranges hold a number
 
-pub same_places : (n : ℕ) (ranges : List (ℤ × ℤ)) (x y : ℤ) → ((place : ℕ) → lies_at_from n ranges place x ≡ lies_at_from n ranges place y) → places_from n ranges x ≡ places_from n ranges y
-same_places n [] x y h = refl
-same_places n (r ∷ rest) x y h =
+-- each of the ranges holds both numbers or neither
+abbrev pub HoldAlike : List (ℤ × ℤ) → ℤ → ℤ → Type 0
+HoldAlike ranges x y = AllByRecursion (λ r. lies_in r x ≡ lies_in r y) ranges
+
+hold_alike : (n : ℕ) (ranges : List (ℤ × ℤ)) (x y : ℤ) → ((place : ℕ) → lies_at_from n ranges place x ≡ lies_at_from n ranges place y) → HoldAlike ranges x y
+hold_alike n [] x y h = tt
+hold_alike n (r ∷ rest) x y h =
     let itself : (n == n) ≡ true = grind arith in
     let here : lies_in r x ≡ lies_in r y = rw itself at (h n) in
-    rw (here, same_places (suc n) rest x y (λ place. others place (n == place) refl))
+    (here, hold_alike (suc n) rest x y (λ place. others place (n == place) refl))
   where
     others : (place : ℕ) (b : Bool) → (n == place) ≡ b → lies_at_from (suc n) rest place x ≡ lies_at_from (suc n) rest place y
     others place true e =
@@ -378,16 +382,16 @@ crossed_on (bound ∷ rest) x none place =
     on : (n : ℤ) → int_eq n (x +ℤ pos 1) ≡ false → int_le n x ≡ int_le n (x +ℤ pos 1)
     on n h = grind (arith, ints)
 
--- a label that the places give changes at the bounds alone
+-- a label that is given by which ranges hold a number changes at the bounds alone
 pub changes_at_bounds : {L : Type 0} (same : L → L → Bool) → IsEquivalence same → (label : ℤ → L) (lo greatest : ℤ) (ranges : List (ℤ × ℤ)) (bounds : List (ℤ × ℕ)) (cuts : List ℤ)
     → AreBounds greatest ranges bounds → cuts ≡ map (λ bound. bound.0) bounds
-    → ((x y : ℤ) → places_at ranges x ≡ places_at ranges y → label x ≡ label y)
+    → ((x y : ℤ) → HoldAlike ranges x y → label x ≡ label y)
     → ChangesAtCuts same label lo greatest cuts
-changes_at_bounds same eq label lo greatest ranges bounds cuts are is by_places x low high none =
+changes_at_bounds same eq label lo greatest ranges bounds cuts are is by_ranges x low high none =
     let unchanged = crossed_on bounds x (rw is at none) in
-    let places : places_at ranges x ≡ places_at ranges (x +ℤ pos 1) =
-        same_places 0 ranges x (x +ℤ pos 1) (λ place. sym (are place x (omega (arith, ints))) ∙ (unchanged place ∙ are place (x +ℤ pos 1) (omega (arith, ints)))) in
-    rw (by_places x (x +ℤ pos 1) places) (eq.refl (label (x +ℤ pos 1)))
+    let alike : HoldAlike ranges x (x +ℤ pos 1) =
+        hold_alike 0 ranges x (x +ℤ pos 1) (λ place. sym (are place x (omega (arith, ints))) ∙ (unchanged place ∙ are place (x +ℤ pos 1) (omega (arith, ints)))) in
+    rw (by_ranges x (x +ℤ pos 1) alike) (eq.refl (label (x +ℤ pos 1)))
 
 -- ---- cuts and the last place
 

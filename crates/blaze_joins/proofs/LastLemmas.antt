@@ -1,0 +1,1 @@
+-- The last pair that holds a number, by the places of those that do.
