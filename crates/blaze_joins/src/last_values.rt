@@ -9,18 +9,18 @@ ghost use Rattle.blaze_joins.specs.LastValue.{last_value_at};
 use crate::map::RangeMapBlaze;
 use element_core::{Element, NoMemory};
 use range_map::Range;
-use range_map::sweep::{ActivePlaces, Bounds, Labelling, sweep};
+use range_map::sweep::{ActivePlaces, Bounds, Labelling, clone_at, sweep};
 use std::alloc::Global;
 
 /// The labelling of each key by the value of the last pair that holds it.
 #[derive(Drop)]
-struct LastValues<'a, T: Element, V: Eq + Clone> {
-    pairs: &'a [(Range<T>, V)],
-    active: ActivePlaces<'a, T>,
+struct LastValues<'p, 'b, T: Element, V: Eq + Clone> {
+    pairs: &'p [(Range<T>, V)],
+    active: ActivePlaces<'b, T>,
     ghost clones: { (a b : V) → V.is_clone a b → V.eq b a ≡ true },
 }
 
-impl<T: Element, V: Eq + Clone> Labelling<T, V> for LastValues<'_, T, V> {
+impl<T: Element, V: Eq + Clone> Labelling<T, V> for LastValues<'_, '_, T, V> {
     ghost label = { λ labels x. last_value_at (pairs_in_numbers T.numbers labels.pairs.now) x };
 
     ghost may_enter = { λ labels x. AreActive T.numbers.greatest (ranges_of (pairs_in_numbers T.numbers labels.pairs.now)) x labels.active };
@@ -30,7 +30,7 @@ impl<T: Element, V: Eq + Clone> Labelling<T, V> for LastValues<'_, T, V> {
         match self.active.last() {
             None => Ok(None),
             Some(place) => {
-                let value = self.pairs[place].1.clone()?;
+                let value = clone_at(self.pairs, place)?;
                 Ok(Some(value))
             }
         }

@@ -1,5 +1,6 @@
 //! One sweep over the numbers of a type, which makes a labelling of them a canonical list of ranges with values.
-ghost use Rattle.std.specs.Prelude.{◌≡◌, ℤ, pos, ◌+ℤ◌, ◌≤ℤ◌, ◌<ℤ◌, Option, IfOk, OnOk, true};
+ghost use Rattle.std.specs.Prelude.{◌≡◌, ◌<◌, ℤ, pos, ◌+ℤ◌, ◌≤ℤ◌, ◌<ℤ◌, Option, Some, IfOk, OnOk, length, true};
+ghost use Rattle.std.specs.List.{slice_get};
 ghost use Rattle.std.specs.Option.{option_eq};
 ghost use Rattle.number_line.specs.Valued.{HasValues, IsCanonicalMap};
 ghost use Rattle.range_map.specs.Range.{in_numbers};
@@ -25,6 +26,17 @@ pub trait Labelling<T: Element, V: Eq> {
         ensures answer { IfOk result (λ found. option_eq V.eq found (label self.old (T.numbers.number x)) ≡ true) }
         ensures same_labels { OnOk result ((y : ℤ) → label self.new y ≡ label self.old y) }
         ensures goes_on { OnOk result ((y : ℤ) → T.numbers.number x ≤ℤ y → may_enter self.new y) };
+}
+
+/// A clone of the value of the pair at `place`. Takes the time and the memory of one clone.
+pub fn clone_at<T: Element, V: Clone>(
+    pairs: &[(Range<T>, V)],
+    place: usize,
+) -> Result<V, NoMemory>
+    requires { place < length pairs.now }
+    ensures { IfOk result (λ value. (pair : (T × T) × V) → slice_get pairs.now place ≡ Some pair → V.is_clone pair.1 value) }
+{
+    Ok(pairs[place].1.clone()?)
 }
 
 /// Puts `range` behind `list` where it has a label.
