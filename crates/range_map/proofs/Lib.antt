@@ -6,3 +6,6 @@ pub mod SearchLemmas
 pub mod EqualityLemmas
 pub mod JoinLemmas
 pub mod DividedLemmas
+pub mod GrowthLemmas
+pub mod SweepLemmas
+pub mod BoundLemmas

@@ -5,3 +5,5 @@ pub mod Merging
 pub mod Valued
 pub mod MapLaws
 pub mod MapError
+pub mod Sweep
+pub mod Bounds

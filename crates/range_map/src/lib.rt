@@ -2,11 +2,13 @@
 //! value each.
 #![tactic(auto)]
 
+mod bounds;
 #[cfg(test)]
 mod callers;
 mod from_iter;
 #[cfg(test)]
 mod from_iter_tests;
+mod growing;
 mod iter;
 pub mod laws;
 mod map;
@@ -18,6 +20,7 @@ mod map_tests;
 mod merging;
 mod range;
 mod set;
+pub mod sweep;
 #[cfg(test)]
 mod tests;
 

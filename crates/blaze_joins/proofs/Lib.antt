@@ -1,0 +1,3 @@
+pub mod UniversalLemmas
+pub mod FillLemmas
+pub mod LastLemmas

@@ -1,0 +1,61 @@
+//! Maps without gaps.
+ghost use Rattle.std.specs.Prelude.{◌≡◌, ℤ, pos, ◌-ℤ◌, ◌≤ℤ◌, Option, Some, None, IfOk, OnOk, true};
+ghost use Rattle.std.specs.Option.{option_eq};
+ghost use Rattle.number_line.specs.Valued.{value_at, IsCanonicalMap, HasValues};
+ghost use Rattle.range_map.specs.Range.{in_numbers};
+ghost use Rattle.range_map.specs.Valued.{pairs_in_numbers, IsMap};
+ghost use Rattle.range_map.specs.Sweep.{EndBelow, IsLabelled};
+
+use crate::map::RangeMapBlaze;
+use element_core::{Element, NoMemory, is_below};
+use range_map::Range;
+use range_map::sweep::push_value;
+use std::alloc::Global;
+
+/// Gives `None` to the keys from `start` to below `range`, if there are any.
+fn push_gap<T: Element, V: Eq + Drop>(
+    filled: &mut Vec<(Range<T>, Option<V>)>,
+    start: T,
+    range: &Range<T>,
+) -> Result<(), NoMemory>
+    requires map { IsMap T.numbers (option_eq V.eq) filled.old.items }
+    requires end_below { EndBelow (T.numbers.number start) (pairs_in_numbers T.numbers filled.old.items) }
+    requires no_later { T.numbers.number start ≤ℤ T.numbers.number range.now.0 }
+    ensures map { OnOk result (IsMap T.numbers (option_eq V.eq) filled.new.items) }
+    ensures labelled { OnOk result (IsLabelled (option_eq V.eq) (pairs_in_numbers T.numbers filled.old.items) (T.numbers.number start, T.numbers.number range.now.0 -ℤ pos 1) (Some None) (pairs_in_numbers T.numbers filled.new.items)) }
+{
+    start.in_type();
+    if !is_below(start, range.start()) {
+        return Ok(());
+    }
+    match range.start().predecessor() {
+        None => Ok(()),
+        Some(end) => push_value(filled, Range::new(start, end), None),
+    }
+}
+
+impl<T: Element, V: Eq + Clone + Drop> RangeMapBlaze<T, V> {
+    /// The map in which every key has a value: `Some` of its value here, or `None` where it has none. Takes O(n) time
+    /// for n ranges.
+    pub fn fill_gaps(&self, alloc: Global) -> Result<RangeMapBlaze<T, Option<V>>, NoMemory>
+        requires { (a b : V) → V.is_clone a b → V.eq b a ≡ true }
+        ensures canonical { IfOk result (IsCanonicalMap (option_eq V.eq) T.numbers.least T.numbers.greatest) }
+        ensures values { IfOk result (HasValues (option_eq V.eq) (λ x. Some (value_at self.now x)) T.numbers.least T.numbers.greatest) }
+    {
+        let mut filled = Vec::with_capacity(alloc, self.pairs.len().saturating_mul(2).saturating_add(1))?;
+        let mut start = T::min_value();
+        let mut rest = self.pairs.as_slice();
+        while let Some((pair, behind)) = rest.split_first() {
+            push_gap(&mut filled, start, &pair.0)?;
+            push_value(&mut filled, pair.0, Some(pair.1.clone()?))?;
+            match pair.0.end().successor() {
+                Some(next) => start = next,
+                None => return Ok(RangeMapBlaze { pairs: filled }),
+            }
+            rest = behind;
+        }
+        start.in_type();
+        push_value(&mut filled, Range::new(start, T::max_value()), None)?;
+        Ok(RangeMapBlaze { pairs: filled })
+    }
+}

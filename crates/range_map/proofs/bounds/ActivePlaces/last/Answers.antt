@@ -1,0 +1,6 @@
+use Rattle.std.specs.Prelude.{IfSome}
+use Rattle.range_map.proofs.BoundLemmas.{copied_last}
+use Rattle.range_map.proofs.bounds.ActivePlaces.last.Goals as goal
+
+pub returns-clause-last : goal.returns-clause-last
+returns-clause-last g c = rw (c.copied.ensures, ← c.self.view_is) (copied_last _ _ c.last.ensures.last)

@@ -1,0 +1,167 @@
+//! Where several ranges begin and end, and which of them hold a number, as it ascends.
+ghost use Rattle.std.specs.Prelude.{◌≡◌, ℕ, ◌==◌, ℤ, ◌≤ℤ◌, List, [], ◌∷◌, ◌++◌, map, IfOk, IfSome, IfNone, OnOk};
+ghost use Rattle.std.specs.List.{All};
+ghost use Rattle.std.specs.List.Sorted.{IsStrictlySortedBy};
+ghost use Rattle.std.specs.Ordering.{nat_cmp};
+ghost use Rattle.range_map.specs.Range.{in_numbers};
+ghost use Rattle.range_map.specs.Valued.{pairs_in_numbers};
+ghost use Rattle.range_map.specs.Sweep.{DoNotFallFrom, numbers_of};
+ghost use Rattle.range_map.specs.Bounds.{xor, ranges_of, places_at, bounds_in_numbers, AreBounds, AreBoundsPushed, has_place, AreActive};
+
+use crate::range::Range;
+use element_core::{Element, NoMemory, compare, is_below};
+use std::alloc::Global;
+use std::collections::BTreeSet;
+use std::marker::Model;
+
+/// The value at which the range at `place` begins, or the value behind its end.
+#[derive(Clone, Copy, Debug)]
+pub struct Bound<T: Element> {
+    at: T,
+    place: usize,
+}
+
+/// Where several ranges begin and end, ascending. Ranges are known by their places, which count from 0.
+#[derive(Debug, Drop)]
+pub struct Bounds<T: Element> {
+    bounds: Vec<Bound<T>>,
+}
+
+impl<T: Element> Model for Bounds<T> {
+    ghost use Rattle.std.specs.Prelude.{ℕ, ℤ, List, map};
+    ghost use Rattle.range_map.specs.Sweep.{DoNotFallFrom};
+    ghost use Rattle.range_map.specs.Bounds.{bounds_in_numbers};
+
+    ghost Value = { List (ℤ × ℕ) };
+
+    ghost view = { λ all. bounds_in_numbers T.numbers all.bounds.items };
+
+    ghost invariant = { λ all. DoNotFallFrom T.numbers T.numbers.least (map (λ bound. bound.at) all.bounds.items) };
+}
+
+/// Puts the bounds of `range` behind the others. An end at the greatest value has none.
+fn push_bounds<T: Element>(
+    bounds: &mut Vec<Bound<T>>,
+    range: &Range<T>,
+    place: usize,
+) -> Result<(), NoMemory>
+    requires { All (λ bound. T.numbers.IsValue bound.at) bounds.old.items }
+    ensures values { OnOk result (All (λ bound. T.numbers.IsValue bound.at) bounds.new.items) }
+    ensures pushed { OnOk result (AreBoundsPushed T.numbers.greatest (bounds_in_numbers T.numbers bounds.old.items) (in_numbers T.numbers range.now) place (bounds_in_numbers T.numbers bounds.new.items)) }
+{
+    bounds.push(Bound {
+        at: range.start(),
+        place,
+    })?;
+    match range.end().successor() {
+        None => Ok(()),
+        Some(at) => {
+            bounds.push(Bound { at, place })?;
+            Ok(())
+        }
+    }
+}
+
+impl<T: Element> Bounds<T> {
+    /// The bounds of the ranges of `pairs`. Takes O(n log n) time for n pairs.
+    pub fn new<V>(alloc: Global, pairs: &[(Range<T>, V)]) -> Result<Self, NoMemory>
+        ensures { IfOk result (AreBounds T.numbers.greatest (ranges_of (pairs_in_numbers T.numbers pairs.now))) }
+    {
+        let mut bounds = Vec::with_capacity(alloc, pairs.len().saturating_mul(2))?;
+        for (place, pair) in pairs.iter().enumerate() {
+            push_bounds(&mut bounds, &pair.0, place)?;
+        }
+        bounds.sort_unstable_by(|a, b| compare(a.at, b.at));
+        Ok(Bounds { bounds })
+    }
+
+    /// The values at which ranges begin or have just ended, ascending, each as often as it does. Takes O(n) time for
+    /// n bounds.
+    pub fn cuts(&self, alloc: Global) -> Result<Vec<T>, NoMemory>
+        ensures cuts { IfOk result (λ cuts. numbers_of T.numbers cuts.items ≡ map (λ bound. bound.0) self.now) }
+        ensures in_order { IfOk result (λ cuts. DoNotFallFrom T.numbers T.numbers.least cuts.items) }
+    {
+        let mut cuts = Vec::with_capacity(alloc, self.bounds.len())?;
+        for bound in &self.bounds {
+            cuts.push(bound.at)?;
+        }
+        Ok(cuts)
+    }
+
+    /// The places of the ranges that hold a number, before the least one. Takes O(1) time and no memory.
+    pub fn active(&self, alloc: Global) -> ActivePlaces<'_, T>
+        ensures { (ranges : List (ℤ × ℤ)) (n : ℤ) → AreBounds T.numbers.greatest ranges self.now → AreActive T.numbers.greatest ranges n result }
+    {
+        ActivePlaces {
+            places: BTreeSet::new(alloc),
+            rest: self.bounds.as_slice(),
+        }
+    }
+}
+
+/// The places of the ranges that hold the value last entered.
+#[derive(Drop)]
+pub struct ActivePlaces<'a, T: Element> {
+    places: BTreeSet<usize>,
+    rest: &'a [Bound<T>],
+}
+
+impl<'a, T: Element> Model for ActivePlaces<'a, T> {
+    ghost use Rattle.std.specs.List.Sorted.{IsStrictlySortedBy};
+    ghost use Rattle.std.specs.Ordering.{nat_cmp};
+    ghost use Rattle.std.specs.Prelude.{map};
+    ghost use Rattle.range_map.specs.Sweep.{DoNotFallFrom};
+    ghost use Rattle.range_map.specs.Bounds.{Active, bounds_in_numbers};
+
+    ghost Value = { Active };
+
+    ghost view = { λ active. record { places = active.places.keys; rest = bounds_in_numbers T.numbers active.rest.now } };
+
+    ghost invariant = { λ active. (DoNotFallFrom T.numbers T.numbers.least (map (λ bound. bound.at) active.rest.now)) × IsStrictlySortedBy nat_cmp active.places.keys };
+}
+
+/// Takes the place out of the set where it is there, and else puts it in.
+fn cross(places: &mut BTreeSet<usize>, place: usize) -> Result<(), NoMemory>
+    ensures ascending { IsStrictlySortedBy nat_cmp places.new.keys }
+    ensures crossed { OnOk result ((other : ℕ) → has_place places.new.keys other ≡ xor (place == other) (has_place places.old.keys other)) }
+{
+    if places.remove(&place) {
+        return Ok(());
+    }
+    places.insert(place)?;
+    Ok(())
+}
+
+impl<'a, T: Element> ActivePlaces<'a, T> {
+    /// Goes on to `x`, which must not be below what was entered before. Takes O(log n) time for each bound that is
+    /// passed, of n pairs. After `NoMemory` some of the bounds were passed.
+    pub fn enter(&mut self, x: T) -> Result<(), NoMemory>
+        ensures goes_on { OnOk result ((ranges : List (ℤ × ℤ)) (n : ℤ) → AreActive T.numbers.greatest ranges (T.numbers.number x) self.old → T.numbers.number x ≤ℤ n → AreActive T.numbers.greatest ranges n self.new) }
+        ensures entered { OnOk result ((ranges : List (ℤ × ℤ)) → AreActive T.numbers.greatest ranges (T.numbers.number x) self.old → self.new.places ≡ places_at ranges (T.numbers.number x)) }
+    {
+        x.in_type();
+        while let Some((bound, behind)) = self.rest.split_first() {
+            if is_below(x, bound.at) {
+                break;
+            }
+            cross(&mut self.places, bound.place)?;
+            self.rest = behind;
+        }
+        Ok(())
+    }
+
+    /// The places, ascending. Takes O(1) time and no memory.
+    pub fn places(&self) -> &BTreeSet<usize>
+        ensures { result.now.keys ≡ self.now.places }
+    {
+        &self.places
+    }
+
+    /// The greatest of the places, or `None` where there is none. Takes O(log n) time and no memory.
+    pub fn last(&self) -> Option<usize>
+        ensures last { IfSome result (λ place. (front : List ℕ) × (self.now.places ≡ front ++ place ∷ [])) }
+        ensures none { IfNone result (self.now.places ≡ []) }
+    {
+        self.places.last().copied()
+    }
+}
