@@ -1,15 +1,14 @@
 //! The values of a map for writing, in the order of their keys.
 ghost use types.Logic.{sem};
-ghost use Rattle.std.specs.Prelude.{◌≡◌, ◌^◌, ◌<◌, ◌&&◌, not, length, map, IfSome};
-ghost use Rattle.std.specs.Iterator.{at_most, UpTo};
-ghost use Rattle.std.specs.Iterator.SizeHint.{IsWithinCount};
+ghost use Rattle.std.specs.Prelude.{◌≡◌, ◌^◌, ◌<◌, ◌&&◌, not, length, map};
+ghost use Rattle.std.specs.Iterator.{at_most};
 ghost use Rattle.std.specs.List.{filter};
 ghost use Rattle.std.specs.List.Sorted.{IsStrictlySortedBy};
 ghost use Rattle.std.specs.Map.Iter.{deref_pair_mut};
 ghost use Rattle.std.specs.Range.Bound.{bound_map};
 ghost use Rattle.ordered_lists.specs.Lists.{by_key};
 ghost use Rattle.sorted_vector_map.specs.Bounds.{is_before, is_within, AreInOrder};
-ghost use Rattle.sorted_vector_map.specs.Hints.{exactly};
+ghost use Rattle.sorted_vector_map.specs.Hints.{IsExact};
 ghost use Rattle.sorted_vector_map.specs.Lending.{LendsFirstOf, LendsLastOf, LendsInOrder, LendsInReverse, deref_mut};
 ghost use Rattle.sorted_vector_map.specs.Refilled.{lends_values, KeepsKeys, KeepsLength};
 ghost use Rattle.sorted_vector_map.specs.Slots.{pair_of, cell_of};
@@ -138,9 +137,7 @@ impl<'map, K, V> Iterator for IterMut<'map, K, V> {
     }
 
     fn size_hint(&self) -> (usize, Option<usize>)
-        ensures lower { IsWithinCount result.0 (at_most (length self.now.rest)) }
-        ensures upper { IfSome result.1 (UpTo (at_most (length self.now.rest))) }
-        ensures exact { result ≡ exactly (length self.now.rest) }
+        ensures { IsExact (length self.now.rest) result }
     {
         let len = self.slots.len();
         (len, Some(len))
@@ -193,9 +190,7 @@ impl<'map, K, V> Iterator for ValuesMut<'map, K, V> {
     }
 
     fn size_hint(&self) -> (usize, Option<usize>)
-        ensures lower { IsWithinCount result.0 (at_most (length self.now.rest)) }
-        ensures upper { IfSome result.1 (UpTo (at_most (length self.now.rest))) }
-        ensures exact { result ≡ exactly (length self.now.rest) }
+        ensures { IsExact (length self.now.rest) result }
     {
         let len = self.pairs.len();
         (len, Some(len))
