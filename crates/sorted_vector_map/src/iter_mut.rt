@@ -16,6 +16,7 @@ ghost use Rattle.sorted_vector_map.specs.Slots.{pair_of, cell_of};
 use crate::lent::Lent;
 use crate::map::SortedVectorMap;
 use crate::slot::Slot;
+use crate::values_mut::ValuesMut;
 use std::iter::ExactSizeIterator;
 use std::marker::Model;
 use std::ops::Bound;
@@ -157,51 +158,5 @@ impl<'map, K, V> DoubleEndedIterator for IterMut<'map, K, V> {
 impl<'map, K, V> ExactSizeIterator for IterMut<'map, K, V> {
     fn len(&self) -> usize {
         self.slots.len()
-    }
-}
-
-/// The values of a map that are still to come, for writing.
-///
-/// It gives them from both ends, in O(1) time each and without memory, and its hint is their exact number.
-#[derive(Drop)]
-pub struct ValuesMut<'map, K, V> {
-    pairs: IterMut<'map, K, V>,
-}
-
-impl<'map, K, V> Model for ValuesMut<'map, K, V> {
-    ghost use Rattle.std.specs.Prelude.{map};
-    ghost use Rattle.sorted_vector_map.specs.Lending.{Lending};
-
-    ghost Value = { Lending V };
-
-    ghost view = { λ it. record { rest = map (λ p. p.1) it.pairs.rest; loan = it.pairs.loan } };
-}
-
-impl<'map, K, V> Iterator for ValuesMut<'map, K, V> {
-    type Item = &'map mut V;
-
-    ghost next_gives = { LendsFirstOf deref_mut };
-
-    ghost remaining = { λ it. at_most (length it.rest) };
-
-    fn next(&mut self) -> Option<Self::Item> {
-        let (_, value) = self.pairs.next()?;
-        Some(value)
-    }
-
-    fn size_hint(&self) -> (usize, Option<usize>)
-        ensures { IsExact (length self.now.rest) result }
-    {
-        let len = self.pairs.len();
-        (len, Some(len))
-    }
-}
-
-impl<'map, K, V> DoubleEndedIterator for ValuesMut<'map, K, V> {
-    ghost next_back_gives = { LendsLastOf deref_mut };
-
-    fn next_back(&mut self) -> Option<Self::Item> {
-        let (_, value) = self.pairs.next_back()?;
-        Some(value)
     }
 }

@@ -22,9 +22,11 @@ mod retain;
 mod slot;
 #[cfg(test)]
 mod tests;
+mod values_mut;
 
 pub use element_core::{NoMemory, Refused};
 pub use entry::{Entry, OccupiedEntry, VacantEntry};
-pub use iter_mut::{IterMut, ValuesMut};
+pub use iter_mut::IterMut;
 pub use iters::{IntoKeys, IntoValues, Iter, Keys, Values};
 pub use map::SortedVectorMap;
+pub use values_mut::ValuesMut;
