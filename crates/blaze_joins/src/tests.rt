@@ -44,7 +44,10 @@ fn a_later_pair_wins(rt: HostRuntime) -> Result<(), Fail> {
 #[test]
 fn touching_equal_values_join(rt: HostRuntime) -> Result<(), Fail> {
     let alloc = rt.alloc();
-    let map = map_of(alloc, [(4, 9, 7), (1, 3, 7), (20, 20, 8), (19, 19, 7)].as_slice())?;
+    let map = map_of(
+        alloc,
+        [(4, 9, 7), (1, 3, 7), (20, 20, 8), (19, 19, 7)].as_slice(),
+    )?;
     assert_eq!(rt;
         listed(alloc, &map)?.as_slice(),
         [(1, 9, 7), (19, 19, 7), (20, 20, 8)].as_slice()
@@ -86,7 +89,13 @@ fn no_gap_at_the_ends(rt: HostRuntime) -> Result<(), Fail> {
     let filled = map.fill_gaps(alloc)?;
     assert_eq!(rt;
         listed(alloc, &filled)?.as_slice(),
-        [(0, 3, Some(1)), (4, 5, Some(2)), (6, 8, None), (9, 255, Some(1))].as_slice()
+        [
+            (0, 3, Some(1)),
+            (4, 5, Some(2)),
+            (6, 8, None),
+            (9, 255, Some(1))
+        ]
+        .as_slice()
     );
     Ok(())
 }
@@ -97,7 +106,10 @@ fn the_empty_map_is_one_gap(rt: HostRuntime) -> Result<(), Fail> {
     let empty: RangeMapBlaze<u8, u8> = RangeMapBlaze::new(alloc);
     assert!(rt; empty.is_empty() && !empty.is_universal() && empty.get(0).is_none());
     let filled = empty.fill_gaps(alloc)?;
-    assert_eq!(rt; listed(alloc, &filled)?.as_slice(), [(0, 255, None)].as_slice());
+    assert_eq!(rt;
+        listed(alloc, &filled)?.as_slice(),
+        [(0, 255, None)].as_slice()
+    );
     Ok(())
 }
 

@@ -91,11 +91,15 @@ module _ {L : Type 0} (same : L → L → Bool) (decides : (a b : L) → same a 
   cut_of : (lo : ℤ) (list : List ((ℤ × ℤ) × L)) → lo ≤ℤ (hi +ℤ pos 1) → IsCanonicalMap same lo hi list → IsTotal lo list → IsCut same f hi lo (map segment_of list)
   cut_of lo [] h c t = by_lt_z hi lo (λ k. omega (arith, ints)) (λ k. let none = t lo (omega (arith, ints)) k in absurd (cc))
   cut_of lo (p ∷ rest) h c t =
-      let start = starts_here lo p rest c t in
-      (start, omega (arith, ints), c.2, rw start at (label_here lo p rest c t p.0.0 (omega (arith, ints)) c.1),
+      let start = starts_here lo p rest c t in (
+        start,
+        omega (arith, ints),
+        c.2,
+        rw start at (label_here lo p rest c t p.0.0 (omega (arith, ints)) c.1),
         (λ x u v. rw (← label_here lo p rest c t x (omega (arith, ints)) (omega (arith, ints)), ← label_here lo p rest c t (x +ℤ pos 1) (omega (arith, ints)) (omega (arith, ints))) (itself p.1)),
         turns lo p rest c t,
-        cut_of (p.0.1 +ℤ pos 1) rest (omega (arith, ints)) c.4 (total_rest lo p rest c t))
+        cut_of (p.0.1 +ℤ pos 1) rest (omega (arith, ints)) c.4 (total_rest lo p rest c t),
+      )
 
   -- a canonical list with the label of each number is the segments
   pub total_is_segments : (lo : ℤ) (n : ℕ) (list : List ((ℤ × ℤ) × L)) → hi ≡ lo +ℤ pos n → IsCanonicalMap same lo hi list → HasValues same (λ x. Some (f x)) lo hi list
@@ -200,11 +204,11 @@ module _ {V : Type 0} where
         leaves (q ∷ rest) s n g h = by_lt_z (p.0.1 +ℤ pos 1) q.0.0
             (λ k. let none = none_before_first same (p.0.1 +ℤ pos 1) hi q rest (p.0.1 +ℤ pos 1) n k in cc)
             (λ k.
-                let there = value_in_first q rest (p.0.1 +ℤ pos 1) (inside q.0 (p.0.1 +ℤ pos 1) k (omega (arith, ints))) in
-                let differ : same p.1 q.1 ≡ false = s (omega (arith, ints)) in
-                let one : Some q.1 ≡ Some b = sym there ∙ g in
-                let q_is_b : q.1 ≡ b = cc in
-                cc)
+            let there = value_in_first q rest (p.0.1 +ℤ pos 1) (inside q.0 (p.0.1 +ℤ pos 1) k (omega (arith, ints))) in
+            let differ : same p.1 q.1 ≡ false = s (omega (arith, ints)) in
+            let one : Some q.1 ≡ Some b = sym there ∙ g in
+            let q_is_b : q.1 ≡ b = cc in
+            cc)
 
         go : (value_at rest x ≡ Some a → value_at rest (x +ℤ pos 1) ≡ Some b → same a b ≡ true → place_at rest x ≡ place_at rest (x +ℤ pos 1))
             → (here next : Bool) → lies_in p.0 x ≡ here → lies_in p.0 (x +ℤ pos 1) ≡ next
@@ -213,9 +217,9 @@ module _ {V : Type 0} where
         go ih true false h k =
             let in_p = lies_within p.0 x h in
             let last : x ≡ p.0.1 = by_lt_z p.0.1 x (λ m. absurd (omega (arith, ints, in_p.1)))
-                (λ m. by_lt_z x p.0.1
-                    (λ less. let wrong : lies_in p.0 (x +ℤ pos 1) ≡ true = inside p.0 (x +ℤ pos 1) (omega (arith, ints, in_p.0)) (omega (arith, ints)) in absurd (cc))
-                    (λ more. omega (arith, ints))) in
+            (λ m. by_lt_z x p.0.1
+            (λ less. let wrong : lies_in p.0 (x +ℤ pos 1) ≡ true = inside p.0 (x +ℤ pos 1) (omega (arith, ints, in_p.0)) (omega (arith, ints)) in absurd (cc))
+            (λ more. omega (arith, ints))) in
             let first : Some p.1 ≡ Some a = sym (value_in_first p rest x h) ∙ e in
             let p_is_a : p.1 ≡ a = cc in
             let past : value_at rest (x +ℤ pos 1) ≡ Some b = sym (value_in_rest p rest (x +ℤ pos 1) k) ∙ f in
