@@ -5,3 +5,7 @@ pub mod NumberLemmas
 pub mod ReaderLemmas
 pub mod TruthLemmas
 pub mod NameLemmas
+pub mod TableLemmas
+pub mod GatherLemmas
+pub mod FewestLemmas
+pub mod ReadLemmas

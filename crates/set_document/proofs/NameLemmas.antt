@@ -126,10 +126,10 @@ found_once_put (p ∷ pairs) k v n = go (found_once_put pairs k v n) (name_cmp p
 -- ---- the names in order
 
 -- a name with what a look-up gives, and a pair of a name and a place, as bytes
-abbrev with_place : (List ℕ → Option ℕ) → List ℕ → List ℕ × Option ℕ
+abbrev pub with_place : (List ℕ → Option ℕ) → List ℕ → List ℕ × Option ℕ
 with_place last n = (n, last n)
 
-abbrev in_bytes : Name × ℕ → List ℕ × Option ℕ
+abbrev pub in_bytes : Name × ℕ → List ℕ × Option ℕ
 in_bytes p = (letters p.0, Some p.1)
 
 -- names that aren't the one put keep their places

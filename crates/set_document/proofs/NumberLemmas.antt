@@ -6,7 +6,7 @@ use Rattle.number_line.proofs.SegmentLemmas.{canonical_is_runs, runs_canonical, 
 use Rattle.set_document.specs.Numbers.{least, greatest, i64_runs}
 use Rattle.set_document.specs.Laws.{RunsAreTheRanges}
 
-width : greatest ≡ least +ℤ pos 18446744073709551615
+pub width : greatest ≡ least +ℤ pos 18446744073709551615
 unfolding least greatest
 width = refl
 

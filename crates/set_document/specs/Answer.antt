@@ -1,7 +1,8 @@
 -- What the answer to a document says, and how it is written.
-use Rattle.std.specs.Prelude.{ℕ, ℤ, List, [], ◌∷◌, ◌++◌, map, flat_map, codes}
+use Rattle.std.specs.Prelude.{ℕ, ℤ, List, [], ◌∷◌, ◌++◌, map, flat_map, codes, slice_get, Some, None}
 use Rattle.std.specs.Fmt.{signed_decimal}
 use Rattle.set_document.specs.Numbers.{i64_runs}
+use Rattle.set_document.specs.Table.{names, rows}
 use Rattle.set_document.specs.Truth.{named}
 
 -- a range as it is written in a document
@@ -29,6 +30,30 @@ lines_text ls = flat_map line_text ls
 unfoldable pub listed : List ℕ → List (List ℕ × List (ℤ × ℤ))
 listed text = map (λ l. (l.0, i64_runs l.1)) (named text)
 
--- what is written for a text without a fault: its list lines
+-- a name behind a space, where there is one at that place
+abbrev pub name_text : List (List ℕ) → ℕ → List ℕ
+name_text names i = elim (slice_get names i) [ Some name ↦ codes " " ++ name | None ↦ [] ]
+
+-- a row of the table on a line: its numbers, and each name that holds there
+abbrev pub row_text : List (List ℕ) → (ℤ × ℤ) × List ℕ → List ℕ
+row_text names row = codes "# " ++ (range_text row.0 ++ (flat_map (name_text names) row.1 ++ codes "\n"))
+
+abbrev pub rows_text : List (List ℕ) → List ((ℤ × ℤ) × List ℕ) → List ℕ
+rows_text names rows = flat_map (row_text names) rows
+
+-- what an answer says: each named line with its ranges, the distinct names in order, and the rows of the table, each with the places of the
+-- names that hold there
+pub record Shape : Type 0 where
+  pub lines : List (List ℕ × List (ℤ × ℤ))
+  pub names : List (List ℕ)
+  pub rows : List ((ℤ × ℤ) × List ℕ)
+
+unfoldable pub shape : List ℕ → Shape
+shape text = record { lines = listed text; names = names text; rows = rows text }
+
+abbrev pub printed : Shape → List ℕ
+printed shape = lines_text shape.lines ++ rows_text shape.names shape.rows
+
+-- what is written for a text without a fault: its list lines, and then its table
 unfoldable pub answer : List ℕ → List ℕ
-answer text = lines_text (listed text)
+answer text = printed (shape text)

@@ -3,6 +3,8 @@ pub mod Text
 pub mod Truth
 pub mod Faults
 pub mod FaultText
+pub mod Table
+pub mod Tabled
 pub mod Answer
 pub mod Words
 pub mod Lines

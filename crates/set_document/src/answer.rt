@@ -1,52 +1,67 @@
-//! The answer of a document: its named sets, and its bytes.
-ghost use Rattle.std.specs.Prelude.{◌≡◌, None, Some, IfOk, IfErr, OnOk, length, List, min, sum_by, slice_get, option_map};
-ghost use Rattle.set_document.specs.Answer.{listed, lines_text, answer};
+//! The answer of a document: its named sets, its table, and its bytes.
+ghost use Rattle.std.specs.Prelude.{◌≡◌, None, Some, IfOk, IfErr, OnOk, length, List, map, min, sum_by, slice_get, option_map};
+ghost use Rattle.set_document.specs.Answer.{shape, printed, answer};
 ghost use Rattle.set_document.specs.Faults.{first_fault};
+ghost use Rattle.set_document.specs.Names.{with_last_places};
 ghost use Rattle.set_document.specs.Steps.{IsFirstFault};
 ghost use Rattle.set_document.specs.Words.{letters};
 
 use crate::evaluator::evaluate_lines;
 use crate::fault::AlgebraError;
-use crate::named_lines::Line;
-use crate::print::push_line;
+use crate::named_lines::NamedLines;
+use crate::print::{push_lines, push_rows};
+use crate::table::{Table, tabulate};
 use crate::word::Name;
 use element_core::NoMemory;
-use range_map::RangeSet;
+use range_map::{Range, RangeSet};
+use sorted_vector_map::SortedVectorMap;
 use std::alloc::Global;
 use std::marker::Model;
 
-/// What a document says: each named line's name and set, in the order of the lines.
+/// What a document says: each named line's name and set, in the order of the lines, and the rows of its table.
 ///
-/// Contracts see an answer as a list of names with their ranges.
+/// Contracts see an answer as its `Shape`: the lines as names with their ranges, the distinct names in the order of
+/// their bytes, and the rows with the places of the names that hold there.
 #[derive(Drop)]
 pub struct Answer<'t> {
-    lines: Vec<Line<'t>>,
+    done: NamedLines<'t>,
+    table: Table,
 }
 
 impl<'t> Model for Answer<'t> {
-    ghost use Rattle.std.specs.Prelude.{ℕ, ℤ, List};
-    ghost use Rattle.set_document.specs.Lines.{shown_lines};
+    ghost use Rattle.std.specs.Prelude.{map};
+    ghost use Rattle.set_document.specs.Answer.{Shape};
+    ghost use Rattle.set_document.specs.Lines.{names_of, shown_lines};
+    ghost use Rattle.set_document.specs.Names.{IsIndex};
+    ghost use Rattle.set_document.specs.Tabled.{tabled};
+    ghost use Rattle.set_document.specs.Words.{letters};
 
-    ghost Value = { List (List ℕ × List (ℤ × ℤ)) };
+    ghost Value = { Shape };
 
-    ghost view = { λ answer. shown_lines answer.lines.items };
+    ghost view = { λ answer. record {
+        lines = shown_lines answer.done.lines.items;
+        names = map (λ p. letters p.0) answer.done.latest.pairs;
+        rows = tabled answer.table.groups answer.table.slots
+    } };
+
+    ghost invariant = { λ answer. IsIndex (names_of answer.done.lines.items) answer.done.latest.pairs };
 }
 
 impl<'t> Answer<'t> {
     /// The number of named lines. O(1), and takes no memory.
     pub fn num_lines(&self) -> usize
-        ensures { result ≡ length self.now }
+        ensures { result ≡ length self.now.lines }
     {
-        self.lines.len()
+        self.done.lines.len()
     }
 
     /// The number of ranges of all lines together, or `usize::MAX` where there are more. O(n) in the number of
     /// lines, and takes no memory.
     pub fn num_ranges(&self) -> usize
-        ensures { result ≡ min (sum_by (λ l. length l.1) self.now) usize.MAX }
+        ensures { result ≡ min (sum_by (λ l. length l.1) self.now.lines) usize.MAX }
     {
         let mut total: usize = 0;
-        for line in &self.lines {
+        for line in &self.done.lines {
             total = total.saturating_add(line.set.num_ranges());
         }
         total
@@ -55,22 +70,56 @@ impl<'t> Answer<'t> {
     /// The name and the set of a named line, which count from 0 in the order of the lines, or `None` from the
     /// number of lines on. O(1), and takes no memory.
     pub fn line(&self, index: usize) -> Option<(Name<'t>, &RangeSet<i64>)>
-        ensures { option_map (λ l. (letters l.0, l.1.now)) result ≡ slice_get self.now index }
+        ensures { option_map (λ l. (letters l.0, l.1.now)) result ≡ slice_get self.now.lines index }
     {
-        let line = self.lines.get(index)?;
+        let line = self.done.lines.get(index)?;
         Some((line.name, &line.set))
     }
 
-    /// The bytes of the answer: for each named line its name, a colon, a space, its ranges and a line feed. The
-    /// ranges are `empty`, or the first as `1..=3`, and for each further one a space, the range, a space and `|`, so
-    /// that the line is read again as the same set. O(n) in the bytes written.
+    /// The number of rows of the table. O(1), and takes no memory.
+    pub fn num_rows(&self) -> usize
+        ensures { result ≡ length self.now.rows }
+    {
+        self.table.num_rows()
+    }
+
+    /// The numbers of a row, which count from 0, and the positions of the names that hold there, ascending, as
+    /// `name` takes them. `None` from the number of rows on. O(1), and takes no memory.
+    pub fn row(&self, index: usize) -> Option<(Range<i64>, &[usize])>
+        ensures { option_map (λ row. (row.0, row.1.now)) result ≡ slice_get self.now.rows index }
+    {
+        self.table.row(index)
+    }
+
+    /// The name at a position among the distinct names in the order of their bytes, from 0, or `None` from their
+    /// number on. O(1), and takes no memory.
+    pub fn name(&self, position: usize) -> Option<Name<'t>>
+        ensures { option_map letters result ≡ slice_get self.now.names position }
+    {
+        let (name, _) = self.done.latest.get_key_value_at_index(position)?;
+        Some(*name)
+    }
+
+    /// The distinct names in the order of their bytes, each with the index of its last line, as `line` takes it.
+    /// O(1), and takes no memory.
+    pub fn names(&self) -> &SortedVectorMap<Name<'t>, usize>
+        ensures names { map (λ p. letters p.0) result.now.pairs ≡ self.now.names }
+        ensures places { map (λ p. (letters p.0, Some p.1)) result.now.pairs ≡ with_last_places (map (λ l. l.0) self.now.lines) }
+    {
+        &self.done.latest
+    }
+
+    /// The bytes of the answer: for each named line its name, a colon, a space, its ranges and a line feed, and then
+    /// for each row `#`, a space, its numbers as a range, each name that holds there after a space, and a line feed.
+    ///
+    /// The ranges of a line are `empty`, or the first as `1..=3`, and for each further one a space, the range, a space
+    /// and `|`, so that the line is read again as the same set, and a row as a comment. O(n) in the bytes written.
     pub fn print(&self, alloc: Global) -> Result<Vec<u8>, NoMemory>
-        ensures { IfOk result (λ bytes. bytes.items ≡ lines_text self.now) }
+        ensures { IfOk result (λ bytes. bytes.items ≡ printed self.now) }
     {
         let mut out = Vec::new(alloc);
-        for line in &self.lines {
-            push_line(&mut out, line)?;
-        }
+        push_lines(&mut out, self.done.lines.as_slice())?;
+        push_rows(&mut out, &self.done.latest, &self.table)?;
         Ok(out)
     }
 }
@@ -78,14 +127,16 @@ impl<'t> Answer<'t> {
 /// The answer of a document, or its first fault.
 ///
 /// Lines are judged in order, in a line its form first, then its words from the left, and last the number of sets
-/// that they leave. One pass over the text; each word costs the ranges of the sets that it takes and leaves.
+/// that they leave. One pass over the text; each word costs the ranges of the sets that it takes and leaves. The table
+/// is made by a sweep over the bounds of all ranges of the names' last lines, with a list of names for each stretch.
 pub fn evaluate<'t>(alloc: Global, text: &'t [u8]) -> Result<Answer<'t>, AlgebraError>
     ensures well_formed { OnOk result (first_fault text.now ≡ None) }
-    ensures lines { IfOk result (λ answer. answer ≡ listed text.now) }
+    ensures shape { IfOk result (λ answer. answer ≡ shape text.now) }
     ensures fault { IfErr result (IsFirstFault (first_fault text.now)) }
 {
     let done = evaluate_lines(alloc, text)?;
-    Ok(Answer { lines: done.lines })
+    let table = tabulate(alloc, &done)?;
+    Ok(Answer { done, table })
 }
 
 /// The bytes of the answer of a document, or its first fault. It costs as `evaluate` and `Answer::print` together.

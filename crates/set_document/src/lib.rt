@@ -1,7 +1,7 @@
 //! A document of named sets: its lines and words, what they mean, its first fault, and its answer.
 //!
 //! A document is bytes. Each line that isn't a comment gives a name to a set of `i64` numbers, written as words
-//! in postfix order: `a: 1..=5 4..=8 |`. The answer writes each named set as ascending ranges.
+//! in postfix order: `a: 1..=5 4..=8 |`. The answer writes each named set as ascending ranges, and then a table of which names hold where.
 #![tactic(auto)]
 
 mod answer;
@@ -12,6 +12,7 @@ mod line;
 mod named_lines;
 mod number;
 mod print;
+mod table;
 mod truth;
 mod word;
 
@@ -21,5 +22,7 @@ pub use line::{LineForm, read_line};
 pub use truth::truths_at;
 pub use word::{Name, Word, read_word};
 
+#[cfg(test)]
+mod table_tests;
 #[cfg(test)]
 mod tests;

@@ -1,11 +1,16 @@
-//! Writes sets in the form of a document.
-ghost use Rattle.std.specs.Prelude.{◌≡◌, ◌++◌, ℤ, OnOk};
+//! Writes sets and rows in the form of a document.
+ghost use Rattle.std.specs.Prelude.{◌≡◌, ◌++◌, ℤ, OnOk, map};
 ghost use Rattle.set_document.specs.Words.{letters};
-ghost use Rattle.set_document.specs.Answer.{range_text, further_text, list_text, line_text};
+ghost use Rattle.set_document.specs.Answer.{range_text, further_text, list_text, line_text, lines_text, name_text, row_text, rows_text};
+ghost use Rattle.set_document.specs.Lines.{shown_lines};
+ghost use Rattle.set_document.specs.Tabled.{tabled};
 
 use crate::named_lines::Line;
+use crate::table::Table;
+use crate::word::Name;
 use element_core::NoMemory;
 use range_map::{Range, RangeIter, RangeSet};
+use sorted_vector_map::SortedVectorMap;
 use std::io::Write;
 
 // Writes a range as `1..=5`.
@@ -48,5 +53,63 @@ pub(crate) fn push_line(out: &mut Vec<u8>, line: &Line<'_>) -> Result<(), NoMemo
     out.extend_from_slice(b": ")?;
     push_list(out, &line.set)?;
     out.extend_from_slice(b"\n")?;
+    Ok(())
+}
+
+// Writes the lines in order.
+pub(crate) fn push_lines(out: &mut Vec<u8>, lines: &[Line<'_>]) -> Result<(), NoMemory>
+    ensures { OnOk result (out.new.items ≡ out.old.items ++ lines_text (shown_lines lines.now)) }
+{
+    for line in lines {
+        push_line(out, line)?;
+    }
+    Ok(())
+}
+
+// Writes the name at a position, after a space.
+fn push_name(
+    out: &mut Vec<u8>,
+    names: &SortedVectorMap<Name<'_>, usize>,
+    position: usize,
+) -> Result<(), NoMemory>
+    ensures { OnOk result (out.new.items ≡ out.old.items ++ name_text (map (λ p. letters p.0) names.now.pairs) position) }
+{
+    let Some((name, _)) = names.get_key_value_at_index(position) else {
+        return Ok(());
+    };
+    out.extend_from_slice(b" ")?;
+    out.extend_from_slice(name.as_bytes())?;
+    Ok(())
+}
+
+// Writes a row: its numbers, and the names that hold there.
+fn push_row(
+    out: &mut Vec<u8>,
+    names: &SortedVectorMap<Name<'_>, usize>,
+    range: &Range<i64>,
+    held: &[usize],
+) -> Result<(), NoMemory>
+    ensures { OnOk result (out.new.items ≡ out.old.items ++ row_text (map (λ p. letters p.0) names.now.pairs) (range.now, held.now)) }
+{
+    out.extend_from_slice(b"# ")?;
+    push_range(out, range)?;
+    for position in held {
+        push_name(out, names, *position)?;
+    }
+    out.extend_from_slice(b"\n")?;
+    Ok(())
+}
+
+// Writes the rows in order.
+pub(crate) fn push_rows(
+    out: &mut Vec<u8>,
+    names: &SortedVectorMap<Name<'_>, usize>,
+    table: &Table,
+) -> Result<(), NoMemory>
+    ensures { OnOk result (out.new.items ≡ out.old.items ++ rows_text (map (λ p. letters p.0) names.now.pairs) (tabled table.now.groups table.now.slots)) }
+{
+    for (range, slot) in table.slots.range_values() {
+        push_row(out, names, range, table.held_in(*slot))?;
+    }
     Ok(())
 }

@@ -7,18 +7,25 @@ use std::alloc::Global;
 use std::process::Abort;
 use std::test::Fail;
 
-/// What is written for a text: its answer, or its first fault and a line feed.
-fn written(alloc: Global, text: &[u8]) -> Result<Vec<u8>, AlgebraError> {
-    match evaluate_document(alloc, text) {
-        Ok(bytes) => Ok(bytes),
-        Err(fault) => Ok(format!(in alloc; "{fault}\n")?.into_bytes()),
-    }
+/// How each table begins: at the least number.
+const TABLE: &[u8] = b"# -9223372036854775808..=";
+
+/// What is written for a text without its table: its list lines, or its first fault and a line feed.
+fn lists_of(rt: &impl Abort, alloc: Global, text: &[u8]) -> Result<Vec<u8>, AlgebraError> {
+    let mut bytes = match evaluate_document(alloc, text) {
+        Ok(bytes) => bytes,
+        Err(fault) => return Ok(format!(in alloc; "{fault}\n")?.into_bytes()),
+    };
+    let table = bytes.windows(TABLE.len()).position(|window| window == TABLE);
+    assert!(rt; table.is_some());
+    bytes.truncate(table.unwrap_or(0));
+    Ok(bytes)
 }
 
-/// Each text gives what stands beside it.
+/// Each text gives the lists, or the fault, that stand beside it.
 fn all_give(rt: &impl Abort, alloc: Global, cases: &[(&str, &str)]) -> Result<(), AlgebraError> {
     for (text, wanted) in cases {
-        let got = written(alloc, text.as_bytes())?;
+        let got = lists_of(rt, alloc, text.as_bytes())?;
         assert!(rt; got.as_slice() == wanted.as_bytes(), "at {text:?}");
     }
     Ok(())
@@ -269,8 +276,8 @@ fn an_answer_is_read_by_its_indices(rt: HostRuntime) -> Result<(), AlgebraError>
     }
     assert!(&rt; answer.line(3).is_none());
     let bytes = answer.print(alloc)?;
-    let wanted =
-        "a: 1..=1 3..=3 |\nc: empty\na: -9223372036854775808..=4 6..=9223372036854775807 |\n";
+    let wanted = "a: 1..=1 3..=3 |\nc: empty\na: -9223372036854775808..=4 6..=9223372036854775807 |\n\
+        # -9223372036854775808..=4 a\n# 5..=5\n# 6..=9223372036854775807 a\n";
     assert!(&rt; bytes.as_slice() == wanted.as_bytes());
     Ok(())
 }

@@ -9,11 +9,27 @@ use crate::status::Status;
 use crate::watched::{WatchedSink, WatchedSource};
 use set_document::AlgebraError;
 use std::alloc::{AllocError, Global};
+use std::process::Abort;
 use std::test::Fail;
 
 const ROOM: usize = 65_536;
 
-const FIRST: &[u8] = b"a: 1..=5 4..=8 |\n";
+const FIRST: &[u8] = b"a: 1..=5 4..=8 ^\n";
+
+const FIRST_ANSWER: &str = "a: 1..=3 6..=8 |\n\
+    # -9223372036854775808..=0\n# 1..=3 a\n# 4..=5\n# 6..=8 a\n# 9..=9223372036854775807\n";
+
+const TWICE_NAMED_ANSWER: &str = "a: 1..=10\nb: 1..=4 6..=10 |\na: 3..=3\n\
+    # -9223372036854775808..=0\n# 1..=2 b\n# 3..=3 a b\n# 4..=4 b\n# 5..=5\n# 6..=10 b\n\
+    # 11..=9223372036854775807\n";
+
+const PORTS: &str = "web: 80 443 | 8000..=8099 |\nlow: 0..=1023\nopen: web low &\n";
+
+const PORTS_ANSWER: &str = "web: 80..=80 443..=443 | 8000..=8099 |\nlow: 0..=1023\n\
+    open: 80..=80 443..=443 |\n\
+    # -9223372036854775808..=-1\n# 0..=79 low\n# 80..=80 low open web\n# 81..=442 low\n\
+    # 443..=443 low open web\n# 444..=1023 low\n# 1024..=7999\n# 8000..=8099 web\n\
+    # 8100..=9223372036854775807\n";
 
 // A comment with its line feed, of so many bytes in all.
 fn comment_of(alloc: Global, length: usize) -> Result<Vec<u8>, AllocError> {
@@ -31,49 +47,67 @@ fn good_sink(alloc: Global) -> Result<MemorySink, Fail> {
     Ok(MemorySink::new(alloc, ROOM, ROOM, Vec::new(alloc), false)?)
 }
 
-#[test]
-fn answers(rt: HostRuntime) -> Result<(), Fail> {
-    let alloc = rt.alloc();
-    let table = [
-        ("a: 1..=5 4..=8 |\n", "a: 1..=8\n"),
-        ("a: 1..=3 4..=6 |\n", "a: 1..=6\n"),
-        ("a: 1..=5 4..=8 ^\n", "a: 1..=3 6..=8 |\n"),
-        ("a: 3 3 -\n", "a: empty\n"),
-        (
-            "a: 1..=10\nb: a 5 -\na: 3\n",
-            "a: 1..=10\nb: 1..=4 6..=10 |\na: 3..=3\n",
-        ),
-        (
-            "web: 80 443 | 8000..=8099 |\nlow: 0..=1023\nopen: web low &\n",
-            "web: 80..=80 443..=443 | 8000..=8099 |\nlow: 0..=1023\nopen: 80..=80 443..=443 |\n",
-        ),
-        (
-            "a: full\nb: empty\nc: a b ^ !\n",
-            "a: -9223372036854775808..=9223372036854775807\nb: empty\nc: empty\n",
-        ),
-        (
-            "a: 9223372036854775807 -9223372036854775808 |\n",
-            "a: -9223372036854775808..=-9223372036854775808 9223372036854775807..=9223372036854775807 |\n",
-        ),
-        (
-            "a: 9223372036854775807 !\n",
-            "a: -9223372036854775808..=9223372036854775806\n",
-        ),
-        (
-            "a: -9223372036854775808..=9223372036854775806 !\n",
-            "a: 9223372036854775807..=9223372036854775807\n",
-        ),
-        ("", ""),
-    ];
+// Each text ends `Done` with the answer that stands beside it.
+fn all_done(
+    rt: &impl Abort,
+    alloc: Global,
+    table: &[(&str, &str)],
+) -> Result<(), Fail> {
     for (text, answer) in table {
         let mut source = PlainSource::new(text.as_bytes().to_vec(alloc)?);
         let mut sink = good_sink(alloc)?;
         let status = run(alloc, &[], &mut source, &mut sink);
-        assert_eq!(rt; status, Status::Done, "at {text}");
-        assert_eq!(rt; status.code(), 0);
-        assert_eq!(rt; sink.bytes(), answer.as_bytes(), "at {text}");
+        assert!(rt; status == Status::Done, "at {text}");
+        assert!(rt; status.code() == 0);
+        assert!(rt; sink.bytes() == answer.as_bytes(), "at {text}");
     }
     Ok(())
+}
+
+#[test]
+fn answers(rt: HostRuntime) -> Result<(), Fail> {
+    let alloc = rt.alloc();
+    let table = [
+        ("a: 1..=5 4..=8 ^\n", FIRST_ANSWER),
+        ("", "# -9223372036854775808..=9223372036854775807\n"),
+        ("a: 1..=10\nb: a 5 -\na: 3\n", TWICE_NAMED_ANSWER),
+        (TWICE_NAMED_ANSWER, TWICE_NAMED_ANSWER),
+        (PORTS, PORTS_ANSWER),
+        (
+            "a: 3 3 -\n",
+            "a: empty\n# -9223372036854775808..=9223372036854775807\n",
+        ),
+        (
+            "a: 1..=3 4..=6 |\n",
+            "a: 1..=6\n# -9223372036854775808..=0\n# 1..=6 a\n# 7..=9223372036854775807\n",
+        ),
+    ];
+    all_done(&rt, alloc, table.as_slice())
+}
+
+#[test]
+fn answers_at_both_ends(rt: HostRuntime) -> Result<(), Fail> {
+    let alloc = rt.alloc();
+    let table = [
+        (
+            "a: 9223372036854775807 !\n",
+            "a: -9223372036854775808..=9223372036854775806\n\
+             # -9223372036854775808..=9223372036854775806 a\n\
+             # 9223372036854775807..=9223372036854775807\n",
+        ),
+        (
+            "a: -9223372036854775808..=9223372036854775806 !\n",
+            "a: 9223372036854775807..=9223372036854775807\n\
+             # -9223372036854775808..=9223372036854775806\n\
+             # 9223372036854775807..=9223372036854775807 a\n",
+        ),
+        (
+            "a: full\nb: empty\nc: a b ^ !\n",
+            "a: -9223372036854775808..=9223372036854775807\nb: empty\nc: empty\n\
+             # -9223372036854775808..=9223372036854775807 a\n",
+        ),
+    ];
+    all_done(&rt, alloc, table.as_slice())
 }
 
 #[test]
@@ -154,7 +188,10 @@ fn longest_text_is_read(rt: HostRuntime) -> Result<(), Fail> {
     let mut sink = good_sink(alloc)?;
     let status = run(alloc, &[], &mut source, &mut sink);
     assert_eq!(rt; status, Status::Done);
-    assert_eq!(rt; sink.bytes().len(), 0);
+    assert_eq!(rt;
+        sink.bytes(),
+        b"# -9223372036854775808..=9223372036854775807\n".as_slice()
+    );
     Ok(())
 }
 
@@ -173,8 +210,7 @@ fn comment_of_65_537_bytes_is_too_long(rt: HostRuntime) -> Result<(), Fail> {
 #[test]
 fn third_read_fails(rt: HostRuntime) -> Result<(), Fail> {
     let alloc = rt.alloc();
-    let text = b"a: 1..=5 4..=8 ^\n".as_slice();
-    let mut source = MemorySource::new(text.to_vec(alloc)?, 4, vec![in alloc; 3u64]?);
+    let mut source = MemorySource::new(FIRST.to_vec(alloc)?, 4, vec![in alloc; 3u64]?);
     let mut sink = good_sink(alloc)?;
     let status = run(alloc, &[], &mut source, &mut sink);
     assert_eq!(rt; status, Status::ReadFault);
@@ -233,7 +269,7 @@ fn finish_fails(rt: HostRuntime) -> Result<(), Fail> {
     let status = run(alloc, &[], &mut source, &mut sink);
     assert_eq!(rt; status, Status::WriteFault);
     assert_eq!(rt; status.code(), 4);
-    assert_eq!(rt; sink.bytes(), b"a: 1..=8\n".as_slice());
+    assert_eq!(rt; sink.bytes(), FIRST_ANSWER.as_bytes());
     Ok(())
 }
 
@@ -263,7 +299,10 @@ fn reads_to_the_end_and_hands_all_that_is_left(rt: HostRuntime) -> Result<(), Fa
     assert_eq!(rt; run(alloc, &[], &mut source, &mut sink), Status::Done);
     let reads = [65_537, 65_533, 65_529, 65_525, 65_521, 65_520];
     assert_eq!(rt; source.handed(), reads.as_slice());
-    assert_eq!(rt; sink.handed(), [9, 5, 1].as_slice());
+    assert_eq!(rt; sink.handed().len(), 25);
+    for (turn, left) in sink.handed().iter().enumerate() {
+        assert_eq!(rt; left.saturating_add(turn.saturating_mul(4)), 98, "at write {turn}");
+    }
     assert_eq!(rt; sink.finishes(), 1);
     Ok(())
 }

@@ -1,8 +1,9 @@
-use Rattle.set_document.specs.Answer.{listed}
-use Rattle.set_document.specs.Truth.{named}
-use Rattle.set_document.proofs.AnswerLemmas.{shown_are_runs}
+use Rattle.set_document.proofs.AnswerLemmas.{shape_is}
 use Rattle.set_document.proofs.answer.evaluate.Goals as goal
 
-pub returns-clause-lines : goal.returns-clause-lines
-unfolding listed
-returns-clause-lines c = shown_are_runs c.in_ok-done.done.lines.items (named c.args.text.now) c.in_ok-done.ensures.canonical c.in_ok-done.ensures.lines
+pub returns-clause-shape : goal.returns-clause-shape
+returns-clause-shape c =
+    let done = c.in_ok-done.done in
+    let table = c.in_ok-table.table in
+    shape_is c.args.text.now done.lines.items done.latest.pairs table.groups table.slots c.in_ok-done.ensures.canonical c.in_ok-done.ensures.lines c.in_ok-done.ensures.indexed
+    c.in_ok-table.ensures.canonical c.in_ok-table.ensures.values

@@ -2,7 +2,7 @@
 use Rattle.std.proofs.Common.{◌≡◌, ◌++◌, drop}
 use Rattle.set_document.specs.Answer.{lines_text}
 use Rattle.set_document.specs.Lines.{shown_lines}
-use Rattle.set_document.proofs.answer.Answer.print.Given as goal
+use Rattle.set_document.proofs.print.push_lines.Given as goal
 
 abbrev pub invariant-loop-line : goal.invariant-loop-line
-invariant-loop-line l = l.out.items ++ lines_text (shown_lines (drop l.line-index l.line-items)) ≡ lines_text (shown_lines l.line-items)
+invariant-loop-line l = l.out.items ++ lines_text (shown_lines (drop l.line-index l.lines)) ≡ l.fn.out.items ++ lines_text (shown_lines l.lines)

