@@ -63,6 +63,7 @@ module _ {T V : Type 0} (numbers : Numbering T) where
     where
       places : List ℕ
       places = places_from (suc n) (ranges_of (pairs_in_numbers numbers rest)) x
+
       by_case : (b : Bool) → lies_in (in_numbers numbers p.0) x ≡ b → (left : List ℕ) → (if b then n ∷ places else places) ≡ left ++ place ∷ []
           → ((left : List ℕ) → places ≡ left ++ place ∷ [] → IsLastOf numbers rest x (suc n) place) → IsLastOf numbers (p ∷ rest) x n place
       by_case true e [] h go =

@@ -47,4 +47,4 @@ module _ {V : Type 0} (same : V → V → Bool) (lo hi : ℤ) (all : List ((ℤ 
       → IsLeftFrom left n → HaveValuesTo n → HaveValuesTo next
   have_values_step left rest p n next is above touch l have x low high =
       by_lt_z x n (λ below. have x low below) (λ within.
-          let v = value_in_range left rest p n is l x (omega (arith, ints)) (omega (arith, ints)) in rw v refl)
+      let v = value_in_range left rest p n is l x (omega (arith, ints)) (omega (arith, ints)) in rw v refl)

@@ -42,7 +42,10 @@ impl<T: Element, V: Eq + Clone + Drop> RangeMapBlaze<T, V> {
         ensures canonical { IfOk result (IsCanonicalMap (option_eq V.eq) T.numbers.least T.numbers.greatest) }
         ensures values { IfOk result (HasValues (option_eq V.eq) (λ x. Some (value_at self.now x)) T.numbers.least T.numbers.greatest) }
     {
-        let mut filled = Vec::with_capacity(alloc, self.pairs.len().saturating_mul(2).saturating_add(1))?;
+        let mut filled = Vec::with_capacity(
+            alloc,
+            self.pairs.len().saturating_mul(2).saturating_add(1),
+        )?;
         let mut start = T::min_value();
         let mut rest = self.pairs.as_slice();
         while let Some((pair, behind)) = rest.split_first() {

@@ -1,5 +1,6 @@
 //! What no contract shows: that the calls succeed where memory suffices, and that the contracts say what is meant.
 use crate::RangeMapBlaze;
+use crate::callers::{filled, has_value};
 use element_core::{Element, NoMemory};
 use range_map::Range;
 use std::alloc::Global;
@@ -44,7 +45,10 @@ fn a_later_pair_wins(rt: HostRuntime) -> Result<(), Fail> {
 #[test]
 fn touching_equal_values_join(rt: HostRuntime) -> Result<(), Fail> {
     let alloc = rt.alloc();
-    let map = map_of(alloc, [(4, 9, 7), (1, 3, 7), (20, 20, 8), (19, 19, 7)].as_slice())?;
+    let map = map_of(
+        alloc,
+        [(4, 9, 7), (1, 3, 7), (20, 20, 8), (19, 19, 7)].as_slice(),
+    )?;
     assert_eq!(rt;
         listed(alloc, &map)?.as_slice(),
         [(1, 9, 7), (19, 19, 7), (20, 20, 8)].as_slice()
@@ -86,7 +90,13 @@ fn no_gap_at_the_ends(rt: HostRuntime) -> Result<(), Fail> {
     let filled = map.fill_gaps(alloc)?;
     assert_eq!(rt;
         listed(alloc, &filled)?.as_slice(),
-        [(0, 3, Some(1)), (4, 5, Some(2)), (6, 8, None), (9, 255, Some(1))].as_slice()
+        [
+            (0, 3, Some(1)),
+            (4, 5, Some(2)),
+            (6, 8, None),
+            (9, 255, Some(1))
+        ]
+        .as_slice()
     );
     Ok(())
 }
@@ -97,7 +107,10 @@ fn the_empty_map_is_one_gap(rt: HostRuntime) -> Result<(), Fail> {
     let empty: RangeMapBlaze<u8, u8> = RangeMapBlaze::new(alloc);
     assert!(rt; empty.is_empty() && !empty.is_universal() && empty.get(0).is_none());
     let filled = empty.fill_gaps(alloc)?;
-    assert_eq!(rt; listed(alloc, &filled)?.as_slice(), [(0, 255, None)].as_slice());
+    assert_eq!(rt;
+        listed(alloc, &filled)?.as_slice(),
+        [(0, 255, None)].as_slice()
+    );
     Ok(())
 }
 
@@ -108,5 +121,20 @@ fn maps_are_equal_by_their_values(rt: HostRuntime) -> Result<(), Fail> {
     let other = map_of(alloc, [(5, 9, 7), (1, 8, 7)].as_slice())?;
     let shorter = map_of(alloc, [(1, 8, 7)].as_slice())?;
     assert!(rt; one == other && one != shorter);
+    Ok(())
+}
+
+#[test]
+fn a_caller_asks_for_keys(rt: HostRuntime) -> Result<(), Fail> {
+    let alloc = rt.alloc();
+    let mut list = Vec::new(alloc);
+    list.push((Range::new(i64::MIN, -1), 3))?;
+    let map = RangeMapBlaze::from_pairs(alloc, list)?;
+    assert!(rt; has_value(&map, i64::MIN) && has_value(&map, -1) && !has_value(&map, 0));
+    let full = filled(alloc, &map)?;
+    assert_eq!(rt;
+        listed(alloc, &full)?.as_slice(),
+        [(i64::MIN, -1, Some(3)), (0, i64::MAX, None)].as_slice()
+    );
     Ok(())
 }

@@ -12,7 +12,7 @@ loop-pair-preserved g c =
     let pair = pair_in_numbers numbers c.in-Some.pair.now in
     let is = ap (pairs_in_numbers numbers) c.in-Some.ensures.cases.0 in
     let above : numbers.number c.in-Some-successor.next ≡ numbers.number c.in-Some.pair.now.0.1 +ℤ pos 1 =
-        c.in-Some-successor.ensures.next.1 ∙ ap (λ x. numbers.number x +ℤ pos 1) c.end.ensures.value in
+    c.in-Some-successor.ensures.next.1 ∙ ap (λ x. numbers.number x +ℤ pos 1) c.end.ensures.value in
     let gap = filled_gap g.V.PartialEq.eq g.met.V.Eq.laws _ numbers.greatest _ _ _ pair _ _ _ is c.loop-pair.invariant.left c.loop-pair.invariant.filled c.in_ok-push_gap.ensures.labelled in
     record {
       is_value = c.in-Some-successor.ensures.next.0;
@@ -29,7 +29,7 @@ returns-in-None-clause-values g c =
     let is = ap (pairs_in_numbers numbers) c.in-Some.ensures.cases.0 in
     let self_is = ap (pairs_in_numbers numbers) c.as_slice-rest.ensures.value ∙ c.self.view_is in
     let last : numbers.greatest +ℤ pos 1 ≡ numbers.number c.in-Some.pair.now.0.1 +ℤ pos 1 =
-        ap (λ k. k +ℤ pos 1) (sym (c.in-None.ensures.at_end.0 refl) ∙ ap numbers.number c.end.ensures.value) in
+    ap (λ k. k +ℤ pos 1) (sym (c.in-None.ensures.at_end.0 refl) ∙ ap numbers.number c.end.ensures.value) in
     let gap = filled_gap g.V.PartialEq.eq g.met.V.Eq.laws _ numbers.greatest _ _ _ pair _ _ _ is c.loop-pair.invariant.left c.loop-pair.invariant.filled c.in_ok-push_gap.ensures.labelled in
     let filled = filled_pair g.V.PartialEq.eq g.met.V.Eq.laws _ numbers.greatest _ _ _ pair _ _ (numbers.greatest +ℤ pos 1) _ _ is c.loop-pair.invariant.left gap
     (c.requires _ _ c.in_ok-clone.ensures.cases) c.in_ok-push_value.ensures.labelled last in

@@ -9,7 +9,7 @@ loop-pair-preserved g c =
     let numbers = g.T.Element.numbers in
     let is = ap (pairs_in_numbers numbers) c.in-Some.ensures.cases.0 in
     let above : numbers.number c.in-Some-successor.next ≡ numbers.number c.in-Some.pair.now.0.1 +ℤ pos 1 =
-        c.in-Some-successor.ensures.next.1 ∙ ap (λ x. numbers.number x +ℤ pos 1) c.end.ensures.value in
+    c.in-Some-successor.ensures.next.1 ∙ ap (λ x. numbers.number x +ℤ pos 1) c.end.ensures.value in
     let touch = rw c.start.ensures.value at c.if-is_below.ensures in
     record {
       is_value = c.in-Some-successor.ensures.next.0;
@@ -23,9 +23,12 @@ returns-then-is_below-clause-some_without g c =
     let is = ap (pairs_in_numbers numbers) c.in-Some.ensures.cases.0 in
     let self_is = ap (pairs_in_numbers numbers) c.as_slice-rest.ensures.value ∙ c.self.view_is in
     let below = rw c.start.ensures.value at c.if-is_below.ensures in
-    let value = c.loop-pair.invariant.is_value in
-    (numbers.number c.loop-pair.start, g.met.T.Element.numbered.low _ value, g.met.T.Element.numbered.high _ value,
-      rw (← self_is) (no_value_in_gap g.V.PartialEq.eq _ _ _ _ _ (pair_in_numbers numbers c.in-Some.pair.now) _ is c.loop-pair.invariant.left _ (omega (arith, ints)) below))
+    let value = c.loop-pair.invariant.is_value in (
+      numbers.number c.loop-pair.start,
+      g.met.T.Element.numbered.low _ value,
+      g.met.T.Element.numbered.high _ value,
+      rw (← self_is) (no_value_in_gap g.V.PartialEq.eq _ _ _ _ _ (pair_in_numbers numbers c.in-Some.pair.now) _ is c.loop-pair.invariant.left _ (omega (arith, ints)) below),
+    )
 
 pub returns-in-None-clause-every : goal.returns-in-None-clause-every
 returns-in-None-clause-every g c =
@@ -33,7 +36,7 @@ returns-in-None-clause-every g c =
     let is = ap (pairs_in_numbers numbers) c.in-Some.ensures.cases.0 in
     let self_is = ap (pairs_in_numbers numbers) c.as_slice-rest.ensures.value ∙ c.self.view_is in
     let last : numbers.greatest +ℤ pos 1 ≡ numbers.number c.in-Some.pair.now.0.1 +ℤ pos 1 =
-        ap (λ k. k +ℤ pos 1) (sym (c.in-None.ensures.at_end.0 refl) ∙ ap numbers.number c.end.ensures.value) in
+    ap (λ k. k +ℤ pos 1) (sym (c.in-None.ensures.at_end.0 refl) ∙ ap numbers.number c.end.ensures.value) in
     let touch = rw c.start.ensures.value at c.if-is_below.ensures in
     rw (← self_is) (λ x low high.
-        have_values_step g.V.PartialEq.eq _ _ _ _ _ (pair_in_numbers numbers c.in-Some.pair.now) _ _ is last touch c.loop-pair.invariant.left c.loop-pair.invariant.have x low (omega (arith, ints)))
+    have_values_step g.V.PartialEq.eq _ _ _ _ _ (pair_in_numbers numbers c.in-Some.pair.now) _ _ is last touch c.loop-pair.invariant.left c.loop-pair.invariant.have x low (omega (arith, ints)))
