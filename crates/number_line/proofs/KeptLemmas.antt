@@ -1,18 +1,16 @@
 -- What is kept of pairs in order is a canonical list, which accounts for all of them.
-use Rattle.std.proofs.Common.{◌≡◌, List, [], ◌∷◌, ◌++◌, refl, ap, arith, sym, ◌∙◌}
-use Rattle.std.specs.Prelude.{ℤ, pos, ◌+ℤ◌, ◌≤ℤ◌, ◌<ℤ◌, Bool, true, false, not, ◌&&◌, ◌||◌, if◌then◌else◌, Option, Some, None}
-use Rattle.std.specs.Cmp.{IsEquivalence}
+use Rattle.std.proofs.Common.{◌≡◌, List, [], ◌∷◌, ◌++◌, refl, ap, arith, ◌∙◌}
+use Rattle.std.specs.Prelude.{ℤ, pos, ◌+ℤ◌, ◌≤ℤ◌, ◌<ℤ◌, Bool, true, false, not, ◌&&◌, ◌||◌, if◌then◌else◌, Some, None}
 use Rattle.std.specs.Int.{int_max}
 use Rattle.std.specs.List.{AllByRecursion}
 use Rattle.std.specs.List.Sorted.{IsPermutation}
-use Rattle.std.specs.Option.{option_eq}
 use Rattle.std.proofs.lemmas.Int.{ints, by_lt_z}
 use Rattle.std.proofs.lemmas.List.Sorted.{IsPermutation-refl, IsPermutation-sym, IsPermutation-trans, IsPermutation-cons, IsPermutation-middle}
 use Rattle.number_line.specs.Ranges.{lies_in}
 use Rattle.number_line.specs.Valued.{value_at, StopsBefore, IsCanonicalMap}
-use Rattle.number_line.specs.Kept.{placed_among, has_less_range, placed, overlaps, touches, clashes, joins, grown, Split, kept_from, kept_and_discarded, HasItsValue, HasAnother, IsAccount, IsDivided}
+use Rattle.number_line.specs.Kept.{has_less_range, placed, overlaps, touches, clashes, joins, grown, kept_from, kept_and_discarded, HasItsValue, HasAnother, IsAccount, IsDivided}
 use Rattle.number_line.proofs.PlacedLemmas.{by_cases, NoneBelow, InOrder, in_order-placed, in_order_is_placed, ranges_rank}
-use Rattle.number_line.proofs.ValuedLemmas.{inside, before, behind, lies_within, value_in_first, value_in_rest}
+use Rattle.number_line.proofs.ValuedLemmas.{inside, behind, lies_within, value_in_rest}
 
 -- ---- the three rules in numbers
 
@@ -240,7 +238,47 @@ module _ {V : Type 0} (same : V → V → Bool) (hi : ℤ) where
       others = others_from p rest b.1 b.3;
     }
 
+  -- ---- pairs that don't overlap
+
+  -- the ranges ascend from lo without overlap, and none is empty; those that touch may have the same value
+  abbrev pub AscendFrom : ℤ → List ((ℤ × ℤ) × V) → Type 0
+  AscendFrom lo [] = Unit {0}
+  AscendFrom lo (p ∷ rest) = (lo ≤ℤ p.0.0) × (p.0.0 ≤ℤ p.0.1) × (p.0.1 ≤ℤ hi) × AscendFrom (p.0.1 +ℤ pos 1) rest
+
+  none_discarded_from : (last : (ℤ × ℤ) × V) (rest : List ((ℤ × ℤ) × V)) → AscendFrom (last.0.1 +ℤ pos 1) rest → (kept_from same last rest).discarded ≡ []
+  none_discarded_from last [] a = refl
+  none_discarded_from last (p ∷ rest) a =
+      let apart = no_clash last.0 p.0 (same last.1 p.1) a.0 in
+      by_cases (joins same last p)
+      (λ j. let end : (grown last p).0.1 ≡ p.0.1 = further last.0.1 p.0 a.0 a.1 in rw (apart, j) (none_discarded_from (grown last p) rest (rw end a.3)))
+      (λ j. rw (apart, j) (none_discarded_from p rest a.3))
+    where
+      further : (end : ℤ) (r : ℤ × ℤ) → (end +ℤ pos 1) ≤ℤ r.0 → r.0 ≤ℤ r.1 → int_max end r.1 ≡ r.1
+      further end r h k = grind (arith, ints)
+
+  none_below_ascending : (p : (ℤ × ℤ) × V) (lo : ℤ) (list : List ((ℤ × ℤ) × V)) → p.0.0 <ℤ lo → AscendFrom lo list → NoneBelow has_less_range p list
+  none_below_ascending p lo [] h a = tt
+  none_below_ascending p lo (q ∷ rest) h a =
+      (grind (arith, ints), none_below_ascending p (q.0.1 +ℤ pos 1) rest (omega (arith, ints)) a.3)
+
+  in_order_ascending : (lo : ℤ) (list : List ((ℤ × ℤ) × V)) → AscendFrom lo list → InOrder has_less_range list
+  in_order_ascending lo [] a = tt
+  in_order_ascending lo (p ∷ rest) a =
+      (none_below_ascending p (p.0.1 +ℤ pos 1) rest (omega (arith, ints)) a.3, in_order_ascending (p.0.1 +ℤ pos 1) rest a.3)
+
+  -- of such pairs none is discarded
+  pub none_discarded : (lo : ℤ) (list : List ((ℤ × ℤ) × V)) → AscendFrom lo list → (kept_and_discarded same (placed list)).discarded ≡ []
+  none_discarded lo list a = rw (in_order_is_placed has_less_range ranges_rank list (in_order_ascending lo list a)) (none list a)
+    where
+      none : (list : List ((ℤ × ℤ) × V)) → AscendFrom lo list → (kept_and_discarded same list).discarded ≡ []
+      none [] a = refl
+      none (p ∷ rest) a = none_discarded_from p rest a.3
+
   -- ---- what is canonical is its own
+
+  ascends : (lo : ℤ) (list : List ((ℤ × ℤ) × V)) → IsCanonicalMap same lo hi list → AscendFrom lo list
+  ascends lo [] c = tt
+  ascends lo (p ∷ rest) c = (c.0, c.1, c.2, ascends (p.0.1 +ℤ pos 1) rest c.4)
 
   own_from : (lo : ℤ) (last : (ℤ × ℤ) × V) (rest : List ((ℤ × ℤ) × V)) → IsCanonicalMap same lo hi (last ∷ rest)
       → kept_from same last rest ≡ record { kept = last ∷ rest; discarded = [] }
@@ -248,20 +286,10 @@ module _ {V : Type 0} (same : V → V → Bool) (hi : ℤ) where
   own_from lo last (p ∷ rest) c =
       rw (no_clash last.0 p.0 (same last.1 p.1) c.4.0, no_join last.0 p.0 (same last.1 p.1) c.4.0 c.3, own_from (last.0.1 +ℤ pos 1) p rest c.4)
 
-  none_below_canonical : (p : (ℤ × ℤ) × V) (lo : ℤ) (list : List ((ℤ × ℤ) × V)) → p.0.0 <ℤ lo → IsCanonicalMap same lo hi list → NoneBelow has_less_range p list
-  none_below_canonical p lo [] h c = tt
-  none_below_canonical p lo (q ∷ rest) h c =
-      (grind (arith, ints), none_below_canonical p (q.0.1 +ℤ pos 1) rest (omega (arith, ints)) c.4)
-
-  in_order_canonical : (lo : ℤ) (list : List ((ℤ × ℤ) × V)) → IsCanonicalMap same lo hi list → InOrder has_less_range list
-  in_order_canonical lo [] c = tt
-  in_order_canonical lo (p ∷ rest) c =
-      (none_below_canonical p (p.0.1 +ℤ pos 1) rest (omega (arith, ints)) c.4, in_order_canonical (p.0.1 +ℤ pos 1) rest c.4)
-
   -- of a canonical list all is kept and nothing discarded
   pub canonical_is_kept : (lo : ℤ) (list : List ((ℤ × ℤ) × V)) → IsCanonicalMap same lo hi list
       → kept_and_discarded same (placed list) ≡ record { kept = list; discarded = [] }
-  canonical_is_kept lo list c = rw (in_order_is_placed has_less_range ranges_rank list (in_order_canonical lo list c)) (own list c)
+  canonical_is_kept lo list c = rw (in_order_is_placed has_less_range ranges_rank list (in_order_ascending lo list (ascends lo list c))) (own list c)
     where
       own : (list : List ((ℤ × ℤ) × V)) → IsCanonicalMap same lo hi list → kept_and_discarded same list ≡ record { kept = list; discarded = [] }
       own [] c = refl

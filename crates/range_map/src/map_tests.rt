@@ -1,5 +1,5 @@
 //! What maps made from pairs hold, by example.
-use crate::{Range, RangeMap, TryFromIterError};
+use crate::{OverlapError, Range, RangeMap, TryFromIterError};
 use element_core::NoMemory;
 use std::alloc::Global;
 use std::hash::{DefaultHasher, Hash, Hasher};
@@ -32,17 +32,13 @@ fn map_of(alloc: Global, rows: &[(i64, i64, u8)]) -> Result<RangeMap<i64, u8>, N
     }
 }
 
-/// The kept rows and the discarded ones of pairs of which some overlap with different values.
+/// What is answered of pairs of which some overlap with different values, or `None` where none do.
 fn overlap_of(
     alloc: Global,
     rows: &[(i64, i64, u8)],
-) -> Result<Option<(Vec<(i64, i64, u8)>, Vec<(i64, i64, u8)>)>, NoMemory> {
+) -> Result<Option<OverlapError<i64, u8>>, NoMemory> {
     match RangeMap::try_from_iter(alloc, pairs_of(alloc, rows)?) {
-        Err(TryFromIterError::Overlap(error)) => {
-            let kept = rows_of(alloc, error.non_overlapping.into_vec().as_slice())?;
-            let discarded = rows_of(alloc, error.discarded.as_slice())?;
-            Ok(Some((kept, discarded)))
-        }
+        Err(TryFromIterError::Overlap(error)) => Ok(Some(error)),
         _ => Ok(None),
     }
 }
@@ -56,14 +52,8 @@ fn hash_of<T: Hash>(value: &T) -> u64 {
 #[test]
 fn equal_values_that_overlap_or_touch_are_joined(rt: HostRuntime) -> Result<(), Fail> {
     let rows = [
-        (
-            [(1, 5, 1), (2, 10, 1), (9, 11, 1)],
-            [(1, 11, 1)].as_slice(),
-        ),
-        (
-            [(9, 11, 1), (1, 5, 1), (6, 8, 1)],
-            [(1, 11, 1)].as_slice(),
-        ),
+        ([(1, 5, 1), (2, 10, 1), (9, 11, 1)], [(1, 11, 1)].as_slice()),
+        ([(9, 11, 1), (1, 5, 1), (6, 8, 1)], [(1, 11, 1)].as_slice()),
         (
             [(1, 9, 1), (2, 3, 1), (10, 10, 2)],
             [(1, 9, 1), (10, 10, 2)].as_slice(),
@@ -111,12 +101,16 @@ fn a_pair_that_overlaps_another_value_is_discarded(rt: HostRuntime) -> Result<()
         ),
     ];
     for (given, kept, discarded) in rows {
-        let Some(lists) = overlap_of(rt.alloc(), given.as_slice())? else {
+        let Some(error) = overlap_of(rt.alloc(), given.as_slice())? else {
             assert!(rt; false, "some pair is discarded");
             return Ok(());
         };
-        assert_eq!(rt; lists.0.as_slice(), kept);
-        assert_eq!(rt; lists.1.as_slice(), discarded);
+        let list = error.non_overlapping.into_vec();
+        assert_eq!(rt; rows_of(rt.alloc(), list.as_slice())?.as_slice(), kept);
+        assert_eq!(rt;
+            rows_of(rt.alloc(), error.discarded.as_slice())?.as_slice(),
+            discarded
+        );
     }
     Ok(())
 }
@@ -213,16 +207,11 @@ fn equal_maps_hash_alike(rt: HostRuntime) -> Result<(), Fail> {
 #[test]
 fn an_overlap_is_compared_and_written(rt: HostRuntime) -> Result<(), Fail> {
     let given = [(1, 5, 1), (5, 10, 2)];
-    let one = RangeMap::try_from_iter(rt.alloc(), pairs_of(rt.alloc(), given.as_slice())?);
-    let other = RangeMap::try_from_iter(rt.alloc(), pairs_of(rt.alloc(), given.as_slice())?);
-    match (one, other) {
-        (Err(TryFromIterError::Overlap(one)), Err(TryFromIterError::Overlap(other))) => {
-            assert!(rt; one == other && hash_of(&one) == hash_of(&other));
-            assert!(rt; format!(in rt.alloc(); "{one:?}")?.len() > 0);
-            assert!(rt; format!(in rt.alloc(); "{:?}", TryFromIterError::Overlap(other))?.len() > 0);
-        }
-        _ => assert!(rt; false, "a pair is discarded"),
-    }
+    let one = overlap_of(rt.alloc(), given.as_slice())?;
+    let other = overlap_of(rt.alloc(), given.as_slice())?;
+    assert!(rt; one.is_some() && one == other);
+    assert_eq!(rt; hash_of(&one), hash_of(&other));
+    assert!(rt; format!(in rt.alloc(); "{one:?}")?.len() > 0);
     Ok(())
 }
 
@@ -234,7 +223,10 @@ fn ranges_come_with_their_values(rt: HostRuntime) -> Result<(), Fail> {
     for pair in map.ranges_values() {
         rows.push((pair.0.start(), pair.0.end(), pair.1))?;
     }
-    assert_eq!(rt; rows.as_slice(), [(1, 3, 1), (4, 6, 2), (9, 9, 2)].as_slice());
+    assert_eq!(rt;
+        rows.as_slice(),
+        [(1, 3, 1), (4, 6, 2), (9, 9, 2)].as_slice()
+    );
     assert!(rt; format!(in rt.alloc(); "{map:?}")?.len() > 0);
     Ok(())
 }
