@@ -50,6 +50,7 @@ module _ (old new : BTreeSet ℕ) (place : ℕ) (was now : Bool) (opposite : now
           let has : has_place old.keys other ≡ was = ap (has_place old.keys) (sym one) ∙ (sym (has_place_is old.keys place) ∙ there) in
           opposite ∙ ap not (sym has)
       by_case false h = refl
+
       seen : cond (is_at (nat_cmp place) other) now (contains nat_cmp old other) ≡ xor (place == other) (has_place old.keys other)
       seen = rw (is_at_is place other, turned place other, has_place_is old.keys other) (by_case (place == other) refl)
 
@@ -125,8 +126,10 @@ only_places n (r ∷ rest) x keys a h = by_case (lies_in r x) refl (λ left asce
   where
     itself : (n == n) ≡ true
     itself = grind arith
+
     here : has_place keys n ≡ lies_in r x
     here = rw itself at (h n)
+
     by_case : (b : Bool) → lies_in r x ≡ b
         → ((left : List ℕ) → AscendFrom (suc n) left → ((place : ℕ) → has_place left place ≡ lies_at_from (suc n) rest place x) → left ≡ places_from (suc n) rest x)
         → keys ≡ (if b then n ∷ places_from (suc n) rest x else places_from (suc n) rest x)
@@ -172,7 +175,7 @@ module _ (greatest : ℤ) where
   two_pushed old r place ordered other x high =
       crossed-push (old ++ (r.0, place) ∷ []) (r.1 +ℤ pos 1, place) other x
       ∙ (ap (λ b. xor b (is_passed other x (r.1 +ℤ pos 1, place))) (crossed-push old (r.0, place) other x)
-          ∙ both (crossed old other x) (place == other) (int_le r.0 x) (int_le x r.1) (int_le (r.1 +ℤ pos 1) x) (grind (arith, ints)) (grind (arith, ints)))
+      ∙ both (crossed old other x) (place == other) (int_le r.0 x) (int_le x r.1) (int_le (r.1 +ℤ pos 1) x) (grind (arith, ints)) (grind (arith, ints)))
     where
       both : (a b start end behind : Bool) → behind ≡ not end → (start ≡ false → end ≡ true) → xor (xor a (b && start)) (b && behind) ≡ xor a (b && (start && end))
       both true false start end behind e f = refl
@@ -211,7 +214,7 @@ module _ {T : Type 0} (numbers : Numbering T) where
       → AreBoundsPushed numbers.greatest (bounds_in_numbers numbers old) (in_numbers numbers r) place (bounds_in_numbers numbers new)
   push_two old mid new a b r place is_mid is_new is_a is_b ordered =
       rw (is_new, is_mid, bounds-push (old ++ a ∷ []) b, bounds-push old a, is_a, is_b)
-        (two_pushed numbers.greatest (bounds_in_numbers numbers old) (in_numbers numbers r) place ordered)
+      (two_pushed numbers.greatest (bounds_in_numbers numbers old) (in_numbers numbers r) place ordered)
 
   pub push_one : (old new : List (Bound T)) (a : Bound T) (r : T × T) (place : ℕ) → new ≡ old ++ a ∷ []
       → bound_in_numbers numbers a ≡ (numbers.number r.0, place) → numbers.number r.1 ≡ numbers.greatest
@@ -233,12 +236,15 @@ module _ {T : Type 0} (numbers : Numbering T) where
         → IsSortedBy ByNumber (bound ∷ rest) → DoNotFallFrom numbers n (map (λ b. b.at) (bound ∷ rest))
     from_first n bound [] low values sorted = let value = values 0 bound (omega arith) in (value, low, numbered.high bound.at value, tt)
     from_first n bound (next ∷ rest) low values sorted =
-        let value = values 0 bound (omega arith) in
-        (value, low, numbered.high bound.at value,
+        let value = values 0 bound (omega arith) in (
+          value,
+          low,
+          numbered.high bound.at value,
           from_first (numbers.number bound.at) next rest
               (not_less (numbers.number bound.at) (numbers.number next.at) (sorted 0 bound (omega arith) (omega arith)))
               (All-tail (λ b. numbers.IsValue b.at) bound (next ∷ rest) values)
-              (λ k d low lt. let one_on : suc k + 1 ≡ suc (k + 1) = omega arith in rw one_on at (sorted (suc k) d (omega arith) (omega arith))))
+              (λ k d low lt. let one_on : suc k + 1 ≡ suc (k + 1) = omega arith in rw one_on at (sorted (suc k) d (omega arith) (omega arith))),
+        )
 
     -- sorted by their numbers
     pub sorted_do_not_fall : (list : List (Bound T)) → AreValues list → IsSortedBy ByNumber list → DoNotFallFrom numbers numbers.least (map (λ b. b.at) list)
@@ -260,6 +266,7 @@ bounds_step greatest n m r left rest all old new next is pushed told place x hig
     apart true false = refl
     apart false true = refl
     apart false false = refl
+
     by_case : (b : Bool) → (n == place) ≡ b
         → xor (xor (crossed old place x) (b && lies_in r x)) (lies_at_from (suc n) rest place x)
         ≡ xor (crossed old place x) (if b then lies_in r x else lies_at_from (suc n) rest place x)
@@ -326,7 +333,7 @@ module _ (greatest : ℤ) (ranges : List (ℤ × ℤ)) (n : ℤ) where
       → AreActive greatest ranges n (record { places = places; rest = rest }) → places ≡ places_at ranges n
   active_places places rest ascending high none active =
       only_places 0 ranges n places (ascend_from_sorted places ascending) (λ place.
-          xor_false (has_place places place) ∙ (ap (xor (has_place places place)) (sym (none place)) ∙ active place n (omega (arith, ints)) high))
+      xor_false (has_place places place) ∙ (ap (xor (has_place places place)) (sym (none place)) ∙ active place n (omega (arith, ints)) high))
     where
       xor_false : (b : Bool) → b ≡ xor b false
       xor_false true = refl
@@ -379,6 +386,7 @@ crossed_on (bound ∷ rest) x none place =
     neither : (a b : Bool) → (a || b) ≡ false → (a ≡ false) × (b ≡ false)
     neither true b h = absurd (cc)
     neither false b h = (refl, h)
+
     on : (n : ℤ) → int_eq n (x +ℤ pos 1) ≡ false → int_le n x ≡ int_le n (x +ℤ pos 1)
     on n h = grind (arith, ints)
 
@@ -390,7 +398,7 @@ pub changes_at_bounds : {L : Type 0} (same : L → L → Bool) → IsEquivalence
 changes_at_bounds same eq label lo greatest ranges bounds cuts are is by_ranges x low high none =
     let unchanged = crossed_on bounds x (rw is at none) in
     let alike : HoldAlike ranges x (x +ℤ pos 1) =
-        hold_alike 0 ranges x (x +ℤ pos 1) (λ place. sym (are place x (omega (arith, ints))) ∙ (unchanged place ∙ are place (x +ℤ pos 1) (omega (arith, ints)))) in
+    hold_alike 0 ranges x (x +ℤ pos 1) (λ place. sym (are place x (omega (arith, ints))) ∙ (unchanged place ∙ are place (x +ℤ pos 1) (omega (arith, ints)))) in
     rw (by_ranges x (x +ℤ pos 1) alike) (eq.refl (label (x +ℤ pos 1)))
 
 -- ---- cuts and the last place

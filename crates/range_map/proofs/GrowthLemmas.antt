@@ -140,10 +140,13 @@ module _ {T V : Type 0} (numbers : Numbering T) where
       where
         p : (T × T) × V
         p = (range, value)
+
         seen : pairs_in_numbers numbers old ≡ pairs_in_numbers numbers rest ++ pair_in_numbers numbers last ∷ []
         seen = rw is_old (in_numbers-push rest last)
+
         behind : numbers.number last.0.1 <ℤ numbers.number range.0
         behind = last_ends_below (numbers.number range.0) old rest last is_old e
+
         both : IsMap numbers same (old ++ p ∷ []) × IsLabelled same (pairs_in_numbers numbers old) (in_numbers numbers range) (Some value) (pairs_in_numbers numbers (old ++ p ∷ []))
         both = (
           record {
@@ -167,18 +170,25 @@ module _ {T V : Type 0} (numbers : Numbering T) where
       where
         p : (T × T) × V
         p = (cover, last.1)
+
         seen : pairs_in_numbers numbers old ≡ pairs_in_numbers numbers rest ++ pair_in_numbers numbers last ∷ []
         seen = rw is_old (in_numbers-push rest last)
+
         canonical : IsCanonicalMap same numbers.least numbers.greatest (pairs_in_numbers numbers rest ++ pair_in_numbers numbers last ∷ [])
         canonical = rw seen at map.canonical
+
         within : numbers.number last.0.0 ≤ℤ numbers.number last.0.1
         within = last_is_ordered same numbers.greatest numbers.least (pairs_in_numbers numbers rest) (pair_in_numbers numbers last) canonical
+
         ordered : numbers.number range.0 ≤ℤ numbers.number range.1
         ordered = r.ordered
+
         starts : numbers.number cover.0 ≡ numbers.number last.0.0
         starts = start ∙ lesser (numbers.number last.0.0) (numbers.number range.0) (omega (arith, ints, within))
+
         ends : numbers.number cover.1 ≡ numbers.number range.1
         ends = end ∙ greater (numbers.number last.0.1) (numbers.number range.1) (omega (arith, ints, ordered))
+
         both : IsMap numbers same (rest ++ p ∷ []) × IsLabelled same (pairs_in_numbers numbers old) (in_numbers numbers range) (Some value) (pairs_in_numbers numbers (rest ++ p ∷ []))
         both = (
           record {

@@ -19,7 +19,7 @@ module _ {L : Type 0} (same : L → L → Bool) (eq : IsEquivalence same) (label
   steps_on (suc k) h =
       let next : first +ℤ pos (suc k) ≡ (first +ℤ pos k) +ℤ pos 1 = omega (arith, ints) in
       rw next (eq.congr (label first) (label (first +ℤ pos k)) (label ((first +ℤ pos k) +ℤ pos 1)) (steps_on k (omega (arith, ints)))
-          ∙ stays (first +ℤ pos k) (omega (arith, ints)) (omega (arith, ints)))
+      ∙ stays (first +ℤ pos k) (omega (arith, ints)) (omega (arith, ints)))
 
   -- a label that stays from each number to the next is that of the first number throughout
   pub stays_throughout : (x : ℤ) → first ≤ℤ x → x ≤ℤ last → same (label first) (label x) ≡ true
@@ -67,6 +67,7 @@ module _ {V : Type 0} (same : V → V → Bool) (eq : IsEquivalence same) (label
     where
       options : IsEquivalence (option_eq same)
       options = options_equiv eq
+
       throughout : (x : ℤ) → r.0 ≤ℤ x → x ≤ℤ r.1 → option_eq same found (label x) ≡ true
       throughout x low high =
           options.congr found (label r.0) (label x) answer

@@ -9,7 +9,6 @@ ghost use Rattle.range_map.specs.Sweep.{DoNotFallFrom, numbers_of, ChangesAtCuts
 
 pub use crate::bounds::{ActivePlaces, Bound, Bounds};
 pub use crate::growing::push_value;
-
 use crate::range::Range;
 use element_core::{Element, NoMemory, is_below};
 use std::alloc::Global;
@@ -29,10 +28,7 @@ pub trait Labelling<T: Element, V: Eq> {
 }
 
 /// A clone of the value of the pair at `place`. Takes the time and the memory of one clone.
-pub fn clone_at<T: Element, V: Clone>(
-    pairs: &[(Range<T>, V)],
-    place: usize,
-) -> Result<V, NoMemory>
+pub fn clone_at<T: Element, V: Clone>(pairs: &[(Range<T>, V)], place: usize) -> Result<V, NoMemory>
     requires { place < length pairs.now }
     ensures { IfOk result (λ value. (pair : (T × T) × V) → slice_get pairs.now place ≡ Some pair → V.is_clone pair.1 value) }
 {

@@ -19,7 +19,7 @@ loop-cut-preserved g c =
     let after = g.L.Labelling.label c.push_up_to.new.labels in
     let d : DoNotFallFrom numbers (numbers.number c.loop-cut.start) (at ∷ left) = rw c.in-Some.ensures.cases.0 at c.loop-cut.invariant.in_order in
     let changes : ChangesAtCuts (option_eq g.V.PartialEq.eq) before (numbers.number at) numbers.greatest (numbers_of numbers left) =
-        changes_from_cut numbers (option_eq g.V.PartialEq.eq) before _ at left d (rw c.in-Some.ensures.cases.0 at c.loop-cut.invariant.changes) in
+    changes_from_cut numbers (option_eq g.V.PartialEq.eq) before _ at left d (rw c.in-Some.ensures.cases.0 at c.loop-cut.invariant.changes) in
     record {
       map = c.in_ok-push_up_to.ensures.map;
       is_value = d.0;

@@ -27,10 +27,10 @@ returns-then-is_below-clause-entered g c =
     let behind = c.in-Some.behind.now in
     let d : DoNotFallFrom numbers numbers.least (map (λ b. b.at) (bound ∷ behind)) = rw c.in-Some.ensures.cases.0 at c.loop-bound.invariant.in_order in
     λ ranges was. active_places _ ranges _ _ _ c.loop-bound.invariant.ascending c.in_type.ensures.high
-        (λ place. rw c.in-Some.ensures.cases.0 (crossed_before numbers (numbers.number bound.at) _ (bound ∷ behind) place (d.0, omega (arith, ints), d.2, d.3) c.if-is_below.ensures))
-        (c.loop-bound.invariant.active ranges was)
+    (λ place. rw c.in-Some.ensures.cases.0 (crossed_before numbers (numbers.number bound.at) _ (bound ∷ behind) place (d.0, omega (arith, ints), d.2, d.3) c.if-is_below.ensures))
+    (c.loop-bound.invariant.active ranges was)
 
 pub returns-in_default-clause-entered : goal.returns-in_default-clause-entered
 returns-in_default-clause-entered g c =
     λ ranges was. active_places _ ranges _ _ _ c.loop-bound.invariant.ascending c.in_type.ensures.high
-        (λ place. rw (nil_from_length _ c.in_default.ensures.cases) refl) (c.loop-bound.invariant.active ranges was)
+    (λ place. rw (nil_from_length _ c.in_default.ensures.cases) refl) (c.loop-bound.invariant.active ranges was)

@@ -12,7 +12,7 @@ invariant-loop-bound g l = record {
   ascending : IsStrictlySortedBy nat_cmp l.self-inside.places.keys;
   active : (ranges : List (ℤ × ℤ)) → AreActive g.T.Element.numbers.greatest ranges (g.T.Element.numbers.number l.x) l.fn.self
       → AreActive g.T.Element.numbers.greatest ranges (g.T.Element.numbers.number l.x)
-          (record { places = l.self-inside.places.keys; rest = bounds_in_numbers g.T.Element.numbers l.self-inside.rest.now });
+      (record { places = l.self-inside.places.keys; rest = bounds_in_numbers g.T.Element.numbers l.self-inside.rest.now });
 }
 
 abbrev pub decreases-loop-bound : goal.decreases-loop-bound

@@ -10,6 +10,6 @@ invariant-loop-place g l = record {
   values : AreValues g.T.Element.numbers l.bounds.items;
   bounds : (place : ℕ) (x : ℤ) → x ≤ℤ g.T.Element.numbers.greatest
       → xor (crossed (bounds_in_numbers g.T.Element.numbers l.bounds.items) place x)
-            (lies_at_from l.place (ranges_of (pairs_in_numbers g.T.Element.numbers (drop l.place l.pairs))) place x)
-          ≡ lies_at (ranges_of (pairs_in_numbers g.T.Element.numbers l.pairs)) place x;
+      (lies_at_from l.place (ranges_of (pairs_in_numbers g.T.Element.numbers (drop l.place l.pairs))) place x)
+      ≡ lies_at (ranges_of (pairs_in_numbers g.T.Element.numbers l.pairs)) place x;
 }
