@@ -4,3 +4,4 @@ pub mod CoverLemmas
 pub mod PlacedLemmas
 pub mod ValuedLemmas
 pub mod KeptLemmas
+pub mod RowLemmas

@@ -40,7 +40,7 @@ module _ {V : Type 0} (same : V → V → Bool) where
   none_below lo hi (p ∷ rest) x c h =
       value_in_rest p rest x (before p.0 x (omega (arith, ints))) ∙ none_below (p.0.1 +ℤ pos 1) hi rest x c.4 (omega (arith, ints))
 
-  none_before_first : (lo hi : ℤ) (p : (ℤ × ℤ) × V) (rest : List ((ℤ × ℤ) × V)) (x : ℤ) → IsCanonicalMap same lo hi (p ∷ rest) → x <ℤ p.0.0 → value_at (p ∷ rest) x ≡ None
+  pub none_before_first : (lo hi : ℤ) (p : (ℤ × ℤ) × V) (rest : List ((ℤ × ℤ) × V)) (x : ℤ) → IsCanonicalMap same lo hi (p ∷ rest) → x <ℤ p.0.0 → value_at (p ∷ rest) x ≡ None
   none_before_first lo hi p rest x c h =
       value_in_rest p rest x (before p.0 x h) ∙ none_below (p.0.1 +ℤ pos 1) hi rest x c.4 (omega (arith, ints))
 

@@ -3,4 +3,5 @@ pub mod Segments
 pub mod Valued
 pub mod Kept
 pub mod ValuedLaws
+pub mod Rows
 pub mod Laws

@@ -5,7 +5,7 @@ use Rattle.number_line.specs.Ranges.{holds}
 use Rattle.set_document.specs.Numbers.{least, greatest, i64_runs}
 use Rattle.set_document.specs.Truth.{Lines, at}
 use Rattle.set_document.specs.Lines.{Agree, AllCanonical, lines_of, shown_lines}
-use Rattle.set_document.specs.declared.evaluator.Line.{Line}
+use Rattle.set_document.specs.declared.named_lines.Line.{Line}
 use Rattle.set_document.proofs.NumberLemmas.{canonical_is_i64_runs}
 
 some_number : (least ≤ℤ least) × (least ≤ℤ greatest)

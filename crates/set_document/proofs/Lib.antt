@@ -4,3 +4,4 @@ pub mod EvaluateLemmas
 pub mod NumberLemmas
 pub mod ReaderLemmas
 pub mod TruthLemmas
+pub mod NameLemmas

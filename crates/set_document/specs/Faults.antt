@@ -3,7 +3,7 @@ use Rattle.std.specs.Prelude.{◌≡◌, ℕ, ◌+◌, ◌-◌, ◌==◌, nat_lt
 use Rattle.std.specs.List.{list_any}
 use Rattle.set_document.specs.declared.fault.AlgebraError.{AlgebraError}
 use Rattle.set_document.specs.declared.fault.AlgebraError.TheVariants.{BadLine, BadWord, Reversed, UnknownName, StackShort, NotOne}
-use Rattle.set_document.specs.Text.{lines, words, form, word_kind, Form, Kind, Number, Span, Empty, Full, Name, Not, Or, And, Minus, Xor, Comment, Named, Bad}
+use Rattle.set_document.specs.Text.{lines, words, form, kind, Form, Kind, Number, Span, Empty, Full, Name, Not, Or, And, Minus, Xor, Comment, Named, Bad}
 
 -- the number of sets after a word, or the fault at it: known are the names of the lines before
 pub data Step : Type 0 where
@@ -32,7 +32,7 @@ judge_word known line word depth (Some Xor) = operator line word 2 depth
 abbrev pub fault_in_words : List (List ℕ) → ℕ → ℕ → ℕ → List (List ℕ) → Option AlgebraError
 fault_in_words known line word depth [] = if depth == 1 then None else Some (NotOne line)
 fault_in_words known line word depth (piece ∷ pieces) =
-    elim (judge_word known line word depth (word_kind piece)) [ Depth d ↦ fault_in_words known line (word + 1) d pieces | Fault f ↦ Some f ]
+    elim (judge_word known line word depth (kind piece)) [ Depth d ↦ fault_in_words known line (word + 1) d pieces | Fault f ↦ Some f ]
 
 -- the first fault of a line by its form
 abbrev pub fault_in_form : List (List ℕ) → ℕ → Form → Option AlgebraError

@@ -6,5 +6,6 @@ pub mod FaultText
 pub mod Answer
 pub mod Words
 pub mod Lines
+pub mod Names
 pub mod Steps
 pub mod Laws

@@ -4,7 +4,7 @@ use Rattle.number_line.specs.Ranges.{holds, IsCanonical}
 use Rattle.set_document.specs.Numbers.{least, greatest}
 use Rattle.set_document.specs.Truth.{at}
 use Rattle.set_document.specs.Words.{letters}
-use Rattle.set_document.specs.declared.evaluator.Line.{Line}
+use Rattle.set_document.specs.declared.named_lines.Line.{Line}
 use Rattle.set_document.specs.declared.truth.Known.{Known}
 
 -- what the sets of a stack give at x, the last one first

@@ -93,16 +93,6 @@ kind piece =
     else if bytes_eq piece (codes "^") then Some Xor
     else number_or_span piece
 
--- the words that the language has so far: every kind but names
-abbrev pub so_far : Option Kind → Option Kind
-so_far None = None
-so_far (Some (Name name)) = None
-so_far (Some k) = Some k
-
--- the kind of a piece in the language so far, or none where it is no word of it
-abbrev pub word_kind : List ℕ → Option Kind
-word_kind piece = so_far (kind piece)
-
 -- ---- lines
 
 -- a comment, a name with what stands behind its colon and space (none where the line ends at the colon), or neither

@@ -5,8 +5,9 @@ ghost use Rattle.set_document.specs.Faults.{first_fault};
 ghost use Rattle.set_document.specs.Steps.{IsFirstFault};
 ghost use Rattle.set_document.specs.Words.{letters};
 
-use crate::evaluator::{Line, evaluate_lines};
+use crate::evaluator::evaluate_lines;
 use crate::fault::AlgebraError;
+use crate::named_lines::Line;
 use crate::print::push_line;
 use crate::word::Name;
 use element_core::NoMemory;
@@ -83,8 +84,8 @@ pub fn evaluate<'t>(alloc: Global, text: &'t [u8]) -> Result<Answer<'t>, Algebra
     ensures lines { IfOk result (λ answer. answer ≡ listed text.now) }
     ensures fault { IfErr result (IsFirstFault (first_fault text.now)) }
 {
-    let lines = evaluate_lines(alloc, text)?;
-    Ok(Answer { lines })
+    let done = evaluate_lines(alloc, text)?;
+    Ok(Answer { lines: done.lines })
 }
 
 /// The bytes of the answer of a document, or its first fault. It costs as `evaluate` and `Answer::print` together.

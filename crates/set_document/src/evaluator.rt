@@ -2,27 +2,22 @@
 ghost use Rattle.std.specs.Prelude.{◌≡◌, ℕ, ◌+◌, ◌<◌, ◌≤◌, ℤ, Bool, ◌≤ℤ◌, [], ◌∷◌, ◌++◌, IfOk, IfErr, OnOk, MatchOption, length, List, Option, option_map, option_copied, Some, None};
 ghost use Rattle.number_line.specs.Ranges.{holds, IsCanonical};
 ghost use Rattle.set_document.specs.Numbers.{least, greatest};
-ghost use Rattle.set_document.specs.Text.{words, form, so_far, Not};
+ghost use Rattle.set_document.specs.Text.{words, form, Not};
 ghost use Rattle.set_document.specs.Truth.{after_form, named, truth};
 ghost use Rattle.set_document.specs.Faults.{judge_word, fault_in_words, fault_in_form, names_after, first_fault, Depth};
 ghost use Rattle.set_document.specs.Words.{shown};
 ghost use Rattle.set_document.specs.Lines.{lines_of, names_of, Agree, AllCanonical};
-ghost use Rattle.set_document.specs.Steps.{IsStep, IsFault, IsFirstFault, kind_of};
+ghost use Rattle.set_document.specs.Names.{IsIndex};
+ghost use Rattle.set_document.specs.Steps.{IsStep, IsStepAfter, IsFault, IsFirstFault, kind_of};
 ghost use Rattle.set_document.specs.declared.fault.AlgebraError.TheVariants as AlgebraError;
 
 use crate::fault::AlgebraError;
 use crate::line::{LineForm, cut_line, cut_piece, read_line};
-use crate::word::{Name, Word, read_any_word};
+use crate::named_lines::NamedLines;
+use crate::word::{Name, Word, read_word};
 use cut_points::{difference, symmetric_difference};
 use range_map::{Range, RangeSet};
 use std::alloc::Global;
-
-/// A named line and the set that its words leave.
-#[derive(Drop)]
-pub(crate) struct Line<'t> {
-    pub(crate) name: Name<'t>,
-    pub(crate) set: RangeSet<i64>,
-}
 
 fn push_set(stack: &mut Vec<RangeSet<i64>>, set: RangeSet<i64>) -> Result<(), AlgebraError>
     ensures pushed { OnOk result (stack.new.items ≡ stack.old.items ++ set ∷ []) }
@@ -92,16 +87,18 @@ fn apply_two(
 
 // What one word does to the stack.
 #[tactic(auto, unfolding(crate::specs::Numbers::least, crate::specs::Numbers::greatest))]
-fn apply_word(
+fn apply_word<'t>(
     alloc: Global,
+    done: &NamedLines<'t>,
     stack: &mut Vec<RangeSet<i64>>,
     line: usize,
     word: usize,
-    found: Option<Word<'_>>,
+    found: Option<Word<'t>>,
 ) -> Result<(), AlgebraError>
-    ensures depth { (known : List (List ℕ)) → OnOk result (judge_word known line word (length stack.old.items) (so_far (option_map shown found.entry)) ≡ Depth (length stack.new.items)) }
-    ensures step { OnOk result (IsStep (option_map shown found.entry) stack.old.items stack.new.items) }
-    ensures fault { (known : List (List ℕ)) → IfErr result (IsFault (judge_word known line word (length stack.old.items) (so_far (option_map shown found.entry)))) }
+    requires indexed { IsIndex (names_of done.now.lines.items) done.now.latest.pairs }
+    ensures depth { OnOk result (judge_word (names_of done.now.lines.items) line word (length stack.old.items) (option_map shown found.entry) ≡ Depth (length stack.new.items)) }
+    ensures step { OnOk result (IsStepAfter (lines_of done.now.lines.items) (option_map shown found.entry) stack.old.items stack.new.items) }
+    ensures fault { IfErr result (IsFault (judge_word (names_of done.now.lines.items) line word (length stack.old.items) (option_map shown found.entry))) }
 {
     match found {
         Some(Word::Number(n)) => push_set(stack, RangeSet::single(alloc, n)?),
@@ -118,29 +115,37 @@ fn apply_word(
         Some(Word::And) => apply_two(alloc, stack, line, word, Operator::And),
         Some(Word::Minus) => apply_two(alloc, stack, line, word, Operator::Minus),
         Some(Word::Xor) => apply_two(alloc, stack, line, word, Operator::Xor),
-        Some(Word::Named(_)) | None => Err(AlgebraError::BadWord { line, word }),
+        Some(Word::Named(name)) => {
+            let Some(set) = done.latest_set(&name) else {
+                return Err(AlgebraError::UnknownName { line, word });
+            };
+            push_set(stack, set.try_clone(alloc)?)
+        }
+        None => Err(AlgebraError::BadWord { line, word }),
     }
 }
 
 // The set that a line's words leave.
 #[tactic(auto, unfolding(crate::specs::Numbers::least, crate::specs::Numbers::greatest))]
-fn evaluate_words(
+fn evaluate_words<'t>(
     alloc: Global,
+    done: &NamedLines<'t>,
     line: usize,
-    rest: Option<&[u8]>,
+    rest: Option<&'t [u8]>,
 ) -> Result<RangeSet<i64>, AlgebraError>
-    ensures fault_free { (known : List (List ℕ)) → OnOk result (fault_in_words known line 1 0 (words (option_copied rest.entry)) ≡ None) }
+    requires indexed { IsIndex (names_of done.now.lines.items) done.now.latest.pairs }
+    ensures fault_free { OnOk result (fault_in_words (names_of done.now.lines.items) line 1 0 (words (option_copied rest.entry)) ≡ None) }
     ensures canonical { IfOk result (IsCanonical least greatest) }
-    ensures truth { (earlier : List (List ℕ × (ℤ → Bool))) → IfOk result (λ s. (x : ℤ) → least ≤ℤ x → x ≤ℤ greatest
-        → holds s x ≡ truth earlier (words (option_copied rest.entry)) x) }
-    ensures fault { (known : List (List ℕ)) → IfErr result (IsFirstFault (fault_in_words known line 1 0 (words (option_copied rest.entry)))) }
+    ensures truth { IfOk result (λ s. (x : ℤ) → least ≤ℤ x → x ≤ℤ greatest
+        → holds s x ≡ truth (lines_of done.now.lines.items) (words (option_copied rest.entry)) x) }
+    ensures fault { IfErr result (IsFirstFault (fault_in_words (names_of done.now.lines.items) line 1 0 (words (option_copied rest.entry)))) }
 {
     let mut stack: Vec<RangeSet<i64>> = Vec::new(alloc);
     let mut left = rest;
     let mut word = 1;
     while let Some(bytes) = left {
         let (piece, after) = cut_piece(bytes);
-        apply_word(alloc, &mut stack, line, word, read_any_word(piece))?;
+        apply_word(alloc, done, &mut stack, line, word, read_word(piece))?;
         left = after;
         word += 1;
     }
@@ -157,21 +162,23 @@ fn evaluate_words(
 // Judges one line, and keeps its set where it is a named one.
 fn add_line<'t>(
     alloc: Global,
-    done: &mut Vec<Line<'t>>,
+    done: &mut NamedLines<'t>,
     line: usize,
     piece: &'t [u8],
 ) -> Result<(), AlgebraError>
-    ensures fault_free { OnOk result (fault_in_form (names_of done.old.items) line (form piece.now) ≡ None) }
-    ensures names { OnOk result (names_of done.new.items ≡ names_after (names_of done.old.items) (form piece.now)) }
-    ensures lines { OnOk result (Agree (lines_of done.new.items) (after_form (lines_of done.old.items) (form piece.now))) }
-    ensures canonical { AllCanonical done.old.items → OnOk result (AllCanonical done.new.items) }
-    ensures fault { IfErr result (IsFirstFault (fault_in_form (names_of done.old.items) line (form piece.now))) }
+    requires indexed { IsIndex (names_of done.old.lines.items) done.old.latest.pairs }
+    ensures fault_free { OnOk result (fault_in_form (names_of done.old.lines.items) line (form piece.now) ≡ None) }
+    ensures names { OnOk result (names_of done.new.lines.items ≡ names_after (names_of done.old.lines.items) (form piece.now)) }
+    ensures lines { OnOk result (Agree (lines_of done.new.lines.items) (after_form (lines_of done.old.lines.items) (form piece.now))) }
+    ensures canonical { AllCanonical done.old.lines.items → OnOk result (AllCanonical done.new.lines.items) }
+    ensures indexed { OnOk result (IsIndex (names_of done.new.lines.items) done.new.latest.pairs) }
+    ensures fault { IfErr result (IsFirstFault (fault_in_form (names_of done.old.lines.items) line (form piece.now))) }
 {
     match read_line(piece) {
         LineForm::Comment => Ok(()),
         LineForm::Named(name, words) => {
-            let set = evaluate_words(alloc, line, words)?;
-            done.push(Line { name, set })?;
+            let set = evaluate_words(alloc, done, line, words)?;
+            done.push(name, set)?;
             Ok(())
         }
         LineForm::Bad => Err(AlgebraError::BadLine { line }),
@@ -183,13 +190,14 @@ fn add_line<'t>(
 pub(crate) fn evaluate_lines<'t>(
     alloc: Global,
     text: &'t [u8],
-) -> Result<Vec<Line<'t>>, AlgebraError>
+) -> Result<NamedLines<'t>, AlgebraError>
     ensures fault_free { OnOk result (first_fault text.now ≡ None) }
-    ensures lines { IfOk result (λ v. Agree (lines_of v.items) (named text.now)) }
-    ensures canonical { IfOk result (λ v. AllCanonical v.items) }
+    ensures lines { IfOk result (λ done. Agree (lines_of done.lines.items) (named text.now)) }
+    ensures canonical { IfOk result (λ done. AllCanonical done.lines.items) }
+    ensures indexed { IfOk result (λ done. IsIndex (names_of done.lines.items) done.latest.pairs) }
     ensures fault { IfErr result (IsFirstFault (first_fault text.now)) }
 {
-    let mut done: Vec<Line<'t>> = Vec::new(alloc);
+    let mut done = NamedLines::new(alloc);
     let mut rest = text;
     let mut line = 1;
     while !rest.is_empty() {

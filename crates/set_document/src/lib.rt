@@ -9,6 +9,7 @@ mod evaluator;
 mod fault;
 pub mod laws;
 mod line;
+mod named_lines;
 mod number;
 mod print;
 mod truth;

@@ -3,7 +3,7 @@ ghost use Rattle.std.specs.Prelude.{◌≡◌, ◌++◌, ℤ, OnOk};
 ghost use Rattle.set_document.specs.Words.{letters};
 ghost use Rattle.set_document.specs.Answer.{range_text, further_text, list_text, line_text};
 
-use crate::evaluator::Line;
+use crate::named_lines::Line;
 use element_core::NoMemory;
 use range_map::{Range, RangeIter, RangeSet};
 use std::io::Write;

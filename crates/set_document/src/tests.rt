@@ -138,7 +138,7 @@ fn each_fault_has_its_line_and_word(rt: HostRuntime) -> Result<(), AlgebraError>
             ("a: 1 |\nB: 1\n", "line 1, word 2: too few sets\n"),
             ("a: 1 2\n", "line 1: not one set\n"),
             ("a: 1 2\nb: x\n", "line 1: not one set\n"),
-            ("a: 1 2 x 5..=2\n", "line 1, word 3: bad word\n"),
+            ("a: 1 2 x 5..=2\n", "line 1, word 3: unknown name\n"),
             ("a: 5..=2 x\n", "line 1, word 1: reversed range\n"),
             (
                 "# \u{e9}\u{0}\n# \t\na: 7 ! !\nb: 1 | 2\n",
@@ -176,11 +176,51 @@ fn the_members_of_one_set_alone(rt: HostRuntime) -> Result<(), AlgebraError> {
 }
 
 #[test]
-fn names_wait(rt: HostRuntime) -> Result<(), AlgebraError> {
+fn a_name_is_the_set_of_its_latest_line(rt: HostRuntime) -> Result<(), AlgebraError> {
     all_give(
         &rt,
         rt.alloc(),
-        &[("a: 1\nb: a\n", "line 2, word 1: bad word\n")],
+        &[
+            ("a: 1\nb: a\n", "a: 1..=1\nb: 1..=1\n"),
+            (
+                "a: 1..=10\nb: a 5 -\na: 3\n",
+                "a: 1..=10\nb: 1..=4 6..=10 |\na: 3..=3\n",
+            ),
+            (
+                "a: 1\na: a 2 |\na: a 3 |\nb: a\n",
+                "a: 1..=1\na: 1..=2\na: 1..=3\nb: 1..=3\n",
+            ),
+            (
+                "b: 2\nab: 3\na: 1\nc: a ab |\n",
+                "b: 2..=2\nab: 3..=3\na: 1..=1\nc: 1..=1 3..=3 |\n",
+            ),
+            (
+                "web: 80 443 | 8000..=8099 |\nlow: 0..=1023\nopen: web low &\n",
+                "web: 80..=80 443..=443 | 8000..=8099 |\nlow: 0..=1023\nopen: 80..=80 443..=443 |\n",
+            ),
+            (
+                "a: full\nb: empty\nc: a b ^ !\n",
+                "a: -9223372036854775808..=9223372036854775807\nb: empty\nc: empty\n",
+            ),
+        ],
+    )
+}
+
+#[test]
+fn a_name_is_known_from_the_next_line_on(rt: HostRuntime) -> Result<(), AlgebraError> {
+    all_give(
+        &rt,
+        rt.alloc(),
+        &[
+            ("a: a\n", "line 1, word 1: unknown name\n"),
+            ("a: 1 2 x\n", "line 1, word 3: unknown name\n"),
+            ("a: b\nb: 1\n", "line 1, word 1: unknown name\n"),
+            ("ab: 1\nb: a\n", "line 2, word 1: unknown name\n"),
+            ("a: 1\nb: ab\n", "line 2, word 1: unknown name\n"),
+            ("# a: 1\nb: a\n", "line 2, word 1: unknown name\n"),
+            ("a: 1\nb: 5..=2 x\n", "line 2, word 1: reversed range\n"),
+            ("a: 1 x |\n", "line 1, word 2: unknown name\n"),
+        ],
     )
 }
 
@@ -206,6 +246,9 @@ fn lines_and_words_are_read(rt: HostRuntime) {
     assert!(&rt; matches!(read_word(b"&"), Some(Word::And)));
     assert!(&rt; matches!(read_word(b"-"), Some(Word::Minus)));
     assert!(&rt; matches!(read_word(b"^"), Some(Word::Xor)));
+    assert!(&rt;
+        matches!(read_word(b"fuller"), Some(Word::Named(name)) if name.as_bytes() == b"fuller".as_slice())
+    );
     assert!(&rt; read_word(b"").is_none());
     assert!(&rt; read_word(b"||").is_none());
     assert!(&rt; read_word(b"Full").is_none());
@@ -273,6 +316,7 @@ fn sets_agree_with_the_plain_reading(rt: HostRuntime) -> Result<(), AlgebraError
         "a: 1 3 | 5 | 7 | ! 2..=6 &\nb: empty ! 10..=20 12..=14 ! & &\n",
         "z: 5 6 | 7 | 8 | 4..=9 ! |\n# a comment\nz: 0 ! 1 ! &\n",
         "a: 1..=9 4..=12 ^ 6 -\nb: full 5..=7 - 6 ^ 9223372036854775807 ^\n",
+        "a: 1..=9\nb: a 5 -\na: b 7 ^\nc: a b ^ !\n",
     ];
     for text in texts {
         for literal in literals_of(alloc, text.as_bytes())? {

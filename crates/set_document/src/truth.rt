@@ -6,7 +6,7 @@ ghost use Rattle.set_document.specs.Words.{letters, shown};
 ghost use Rattle.set_document.specs.Lines.{pairs_of};
 
 use crate::line::{LineForm, cut_line, cut_piece, read_line};
-use crate::word::{Name, Word, read_any_word};
+use crate::word::{Name, Word, read_word};
 use element_core::NoMemory;
 use std::alloc::Global;
 
@@ -105,7 +105,7 @@ fn line_truth(
     let mut left = rest;
     while let Some(bytes) = left {
         let (piece, after) = cut_piece(bytes);
-        apply_word(done, &mut values, x, read_any_word(piece))?;
+        apply_word(done, &mut values, x, read_word(piece))?;
         left = after;
     }
     Ok(values.pop().unwrap_or(false))

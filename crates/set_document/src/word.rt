@@ -1,7 +1,7 @@
 //! Reads the words of a document.
 ghost use Rattle.std.specs.Prelude.{◌≡◌, ◌≤◌, ◌==◌, length, List, Option, option_map, bytes_eq};
 ghost use Rattle.std.specs.List.{position_or_len, list_all};
-ghost use Rattle.set_document.specs.Text.{kind, word_kind, is_letters, is_letter, span, span_from};
+ghost use Rattle.set_document.specs.Text.{kind, is_letters, is_letter, span, span_from};
 ghost use Rattle.set_document.specs.Words.{letters, shown};
 
 use crate::number::read_number;
@@ -96,8 +96,12 @@ fn read_span<'t>(piece: &'t [u8]) -> Option<Word<'t>>
     }
 }
 
-// A word of the whole language.
-pub(crate) fn read_any_word<'t>(piece: &'t [u8]) -> Option<Word<'t>>
+/// The word that a piece between spaces writes, or `None` where it is no word.
+///
+/// A number is `0`, or an optional `-`, a digit 1 to 9 and further digits, and fits an `i64`; a span is two numbers
+/// with `..=` between them. Letters of `a` to `z` alone are a name, but for `empty` and `full`. O(n), and takes no
+/// memory.
+pub fn read_word<'t>(piece: &'t [u8]) -> Option<Word<'t>>
     ensures { option_map shown result ≡ kind piece.now }
 {
     if piece == b"empty".as_slice() {
@@ -121,18 +125,5 @@ pub(crate) fn read_any_word<'t>(piece: &'t [u8]) -> Option<Word<'t>>
             Some(n) => Some(Word::Number(n)),
             None => read_span(piece),
         }
-    }
-}
-
-/// The word that a piece between spaces writes, or `None` where it is no word.
-///
-/// A number is `0`, or an optional `-`, a digit 1 to 9 and further digits, and fits an `i64`; a span is two numbers
-/// with `..=` between them. So far names are no words. O(n), and takes no memory.
-pub fn read_word<'t>(piece: &'t [u8]) -> Option<Word<'t>>
-    ensures { option_map shown result ≡ word_kind piece.now }
-{
-    match read_any_word(piece) {
-        Some(Word::Named(_)) => None,
-        word => word,
     }
 }

@@ -40,6 +40,18 @@ fn answers(rt: HostRuntime) -> Result<(), Fail> {
         ("a: 1..=5 4..=8 ^\n", "a: 1..=3 6..=8 |\n"),
         ("a: 3 3 -\n", "a: empty\n"),
         (
+            "a: 1..=10\nb: a 5 -\na: 3\n",
+            "a: 1..=10\nb: 1..=4 6..=10 |\na: 3..=3\n",
+        ),
+        (
+            "web: 80 443 | 8000..=8099 |\nlow: 0..=1023\nopen: web low &\n",
+            "web: 80..=80 443..=443 | 8000..=8099 |\nlow: 0..=1023\nopen: 80..=80 443..=443 |\n",
+        ),
+        (
+            "a: full\nb: empty\nc: a b ^ !\n",
+            "a: -9223372036854775808..=9223372036854775807\nb: empty\nc: empty\n",
+        ),
+        (
             "a: 9223372036854775807 -9223372036854775808 |\n",
             "a: -9223372036854775808..=-9223372036854775808 9223372036854775807..=9223372036854775807 |\n",
         ),
@@ -102,6 +114,16 @@ fn first_faults(rt: HostRuntime) -> Result<(), Fail> {
             "a: 1 2\nb: x\n",
             AlgebraError::NotOne { line: 1 },
             "line 1: not one set\n",
+        ),
+        (
+            "a: a\n",
+            AlgebraError::UnknownName { line: 1, word: 1 },
+            "line 1, word 1: unknown name\n",
+        ),
+        (
+            "a: 1 2 x\n",
+            AlgebraError::UnknownName { line: 1, word: 3 },
+            "line 1, word 3: unknown name\n",
         ),
         (
             "a: 1..=3 4..=6 | 3\n",

@@ -1,1 +1,9 @@
 pub mod RetainLemmas
+pub mod ComingLemmas
+pub mod EntryLemmas
+pub mod RefillLemmas
+pub mod LendForm
+pub mod LendCells
+pub mod LendColumns
+pub mod LendMap
+pub mod LendingRuns

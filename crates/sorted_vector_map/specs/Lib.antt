@@ -3,4 +3,9 @@ pub mod Lent
 pub mod Grown
 pub mod Bounds
 pub mod Hints
+pub mod Coming
 pub mod Entry
+pub mod Slots
+pub mod Loans
+pub mod Lending
+pub mod Refilled

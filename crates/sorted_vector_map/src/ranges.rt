@@ -62,7 +62,7 @@ impl<K: Ord, V> SortedVectorMap<K, V> {
         }
     }
 
-    fn start_of(&self, low: Bound<&K>) -> usize
+    pub(crate) fn start_of(&self, low: Bound<&K>) -> usize
         ensures { IsCutAt (λ p. is_before K.cmp (bound_map (λ k. k.now) low.entry) p.0) self.now.pairs result }
     {
         match low {
@@ -72,7 +72,7 @@ impl<K: Ord, V> SortedVectorMap<K, V> {
         }
     }
 
-    fn end_of(&self, high: Bound<&K>) -> usize
+    pub(crate) fn end_of(&self, high: Bound<&K>) -> usize
         ensures { IsCutAt (λ p. is_within K.cmp (bound_map (λ k. k.now) high.entry) p.0) self.now.pairs result }
     {
         match high {

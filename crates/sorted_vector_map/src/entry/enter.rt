@@ -1,11 +1,9 @@
-//! The calls of a map that make an entry.
-ghost use Rattle.std.specs.Prelude.{Some, ◌≡◌, ◌-◌, [], length, slice_get, unwrap_or, IfSome, IfNone};
+//! The calls of a map that answer an entry.
+ghost use Rattle.std.specs.Prelude.{Some, ◌≡◌, ◌≤◌, ◌<◌, ◌-◌, [], length, unwrap_or, IfSome, IfNone};
 ghost use Rattle.std.specs.Borrow.{sem};
-ghost use Rattle.std.specs.List.{remove};
 ghost use Rattle.std.specs.Option.{option_map};
 ghost use Rattle.ordered_lists.specs.Lists.{to_key, find, has, put, take_out};
-ghost use Rattle.ordered_lists.specs.Search.{set_value};
-ghost use Rattle.sorted_vector_map.specs.Entry.{Occupied, entry_map_ref, is_occupied, entry_key, entry_value, entry_written, entry_without, rests_if_empty};
+ghost use Rattle.sorted_vector_map.specs.Entry.{StandsIn, StandsAt, HasKey, is_taken, stored, after_writing, after_removal, lends_or_stays};
 
 use super::{Entry, OccupiedEntry, VacantEntry};
 use crate::map::SortedVectorMap;
@@ -16,13 +14,12 @@ impl<K: Ord, V> SortedVectorMap<K, V> {
     pub fn entry(&mut self, key: K) -> Entry<'_, K, V>
     where
         K: Drop,
-        ensures same_map { (entry_map_ref result).ghost_name ≡ self.entry.ghost_name }
-        ensures unchanged { (entry_map_ref result).now ≡ self.old }
-        ensures occupied { is_occupied result ≡ has (to_key K.cmp) self.old.pairs key }
-        ensures key { entry_key result ≡ Some (unwrap_or (option_map (λ p. p.0) (find (to_key K.cmp) self.old.pairs key)) key) }
-        ensures value { entry_value result ≡ option_map (λ p. p.1) (find (to_key K.cmp) self.old.pairs key) }
-        ensures written { (w : V) → entry_written result w ≡ put K.cmp self.old.pairs key w }
-        ensures removed { entry_without result ≡ take_out (to_key K.cmp) self.old.pairs key }
+        ensures place { StandsIn self.entry result }
+        ensures taken { is_taken result ≡ has (to_key K.cmp) self.old.pairs key }
+        ensures key { HasKey result (unwrap_or (option_map (λ pair. pair.0) (find (to_key K.cmp) self.old.pairs key)) key) }
+        ensures stored { stored result ≡ option_map (λ pair. pair.1) (find (to_key K.cmp) self.old.pairs key) }
+        ensures written { (w : V) → after_writing result w ≡ put K.cmp self.old.pairs key w }
+        ensures removed { after_removal result ≡ take_out (to_key K.cmp) self.old.pairs key }
     {
         match self.place_for(&key) {
             Ok(at) => Entry::Occupied(OccupiedEntry { map: self, at }),
@@ -32,39 +29,36 @@ impl<K: Ord, V> SortedVectorMap<K, V> {
 
     /// The place of the first pair, or `None` where the map is empty. It takes O(1) time and no memory.
     pub fn first_entry(&mut self) -> Option<OccupiedEntry<'_, K, V>>
-        ensures* unchanged_at_none { sem 𝓛 (rests_if_empty K.row V.row K.Ord self.entry result) }
+        ensures* map { sem 𝓛 (lends_or_stays K.row V.row K.Ord self.entry result) }
         ensures none { IfNone result (self.old.pairs ≡ []) }
-        ensures same_map { IfSome result (λ e. (entry_map_ref (Occupied e)).ghost_name ≡ self.entry.ghost_name) }
-        ensures unchanged { IfSome result (λ e. (entry_map_ref (Occupied e)).now ≡ self.old) }
-        ensures key { IfSome result (λ e. entry_key (Occupied e) ≡ option_map (λ p. p.0) (slice_get self.old.pairs 0)) }
-        ensures value { IfSome result (λ e. entry_value (Occupied e) ≡ option_map (λ p. p.1) (slice_get self.old.pairs 0)) }
-        ensures written { IfSome result (λ e. (w : V) → entry_written (Occupied e) w ≡ set_value self.old.pairs 0 w) }
-        ensures removed { IfSome result (λ e. entry_without (Occupied e) ≡ remove self.old.pairs 0) }
+        ensures some { IfSome result (λ _. 0 < length self.old.pairs) }
+        ensures first { IfSome result (StandsAt self.entry 0) }
     {
-        if self.is_empty() {
-            return None;
-        }
-        Some(OccupiedEntry { map: self, at: 0 })
+        self.entry_at(0)
     }
 
     /// The place of the last pair, or `None` where the map is empty. It takes O(1) time and no memory.
     pub fn last_entry(&mut self) -> Option<OccupiedEntry<'_, K, V>>
-        ensures* unchanged_at_none { sem 𝓛 (rests_if_empty K.row V.row K.Ord self.entry result) }
+        ensures* map { sem 𝓛 (lends_or_stays K.row V.row K.Ord self.entry result) }
         ensures none { IfNone result (self.old.pairs ≡ []) }
-        ensures same_map { IfSome result (λ e. (entry_map_ref (Occupied e)).ghost_name ≡ self.entry.ghost_name) }
-        ensures unchanged { IfSome result (λ e. (entry_map_ref (Occupied e)).now ≡ self.old) }
-        ensures key { IfSome result (λ e. entry_key (Occupied e) ≡ option_map (λ p. p.0) (slice_get self.old.pairs (length self.old.pairs - 1))) }
-        ensures value { IfSome result (λ e. entry_value (Occupied e) ≡ option_map (λ p. p.1) (slice_get self.old.pairs (length self.old.pairs - 1))) }
-        ensures written { IfSome result (λ e. (w : V) → entry_written (Occupied e) w ≡ set_value self.old.pairs (length self.old.pairs - 1) w) }
-        ensures removed { IfSome result (λ e. entry_without (Occupied e) ≡ remove self.old.pairs (length self.old.pairs - 1)) }
+        ensures some { IfSome result (λ _. 0 < length self.old.pairs) }
+        ensures last { IfSome result (StandsAt self.entry (length self.old.pairs - 1)) }
     {
-        let len = self.len();
-        if len == 0 {
-            return None;
+        let last = self.items.len().saturating_sub(1);
+        self.entry_at(last)
+    }
+
+    // The place of the pair at `at`, or `None` from the length on.
+    fn entry_at(&mut self, at: usize) -> Option<OccupiedEntry<'_, K, V>>
+        ensures* map { sem 𝓛 (lends_or_stays K.row V.row K.Ord self.entry result) }
+        ensures none { IfNone result (length self.old.pairs ≤ at) }
+        ensures some { IfSome result (λ _. at < length self.old.pairs) }
+        ensures pair { IfSome result (StandsAt self.entry at) }
+    {
+        if at < self.items.len() {
+            Some(OccupiedEntry { map: self, at })
+        } else {
+            None
         }
-        Some(OccupiedEntry {
-            map: self,
-            at: len - 1,
-        })
     }
 }

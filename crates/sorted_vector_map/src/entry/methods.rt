@@ -1,21 +1,21 @@
-//! The calls of an entry.
-ghost use Rattle.std.specs.Prelude.{Some, ◌≡◌, ◌≤◌, true, false, unwrap_or, IsOk, IfOk, IfErr};
+//! The calls of an entry of either kind.
+ghost use Rattle.std.specs.Prelude.{◌≡◌, ◌≤◌, true, false, Some, unwrap_or, IsOk, IfOk, IfErr};
 ghost use Rattle.std.specs.Borrow.{sem, MutBor};
 ghost use Rattle.std.specs.Map.Calls.{ModifiesValue};
 ghost use Rattle.std.specs.Option.{UnwrapsOrElse};
-ghost use Rattle.sorted_vector_map.specs.Entry.{entry_map_ref, is_occupied, entry_key, entry_value, entry_written, entry_without, entry_lends_ok, has_key};
+ghost use Rattle.sorted_vector_map.specs.Entry.{home, is_taken, HasKey, stored, IsSamePlace, writes_through_if_ok};
 
-use super::{Entry, OccupiedEntry, VacantEntry};
+use super::Entry;
 use element_core::Refused;
 
 impl<'a, K: Ord, V> Entry<'a, K, V> {
     /// The stored key, or the given one where there is none. It takes O(1) time and no memory.
     pub fn key(&self) -> &K
-        ensures { entry_key self.now ≡ Some result.now }
+        ensures { HasKey self.now result.now }
     {
         match self {
-            Entry::Vacant(entry) => entry.key(),
-            Entry::Occupied(entry) => entry.key(),
+            Entry::Occupied(taken) => taken.key(),
+            Entry::Vacant(free) => free.key(),
         }
     }
 
@@ -26,16 +26,13 @@ impl<'a, K: Ord, V> Entry<'a, K, V> {
     pub fn or_insert(self, default: V) -> Result<&'a mut V, Refused<(K, V)>>
     where
         V: Drop,
-        ensures* writes_back { sem 𝓛 (entry_lends_ok K.row V.row self.entry result) }
-        ensures value { IfOk result (λ r. r.now ≡ unwrap_or (entry_value self.entry) default) }
-        ensures given { IfErr result (λ refused. has_key self.entry refused.given.0 × (refused.given.1 ≡ default)) }
-        ensures present { is_occupied self.entry ≡ true → IsOk result }
-        ensures roomy { 1 ≤ (entry_map_ref self.entry).now.spare → IsOk result }
+        ensures* writes_back { sem 𝓛 (writes_through_if_ok K.row V.row self.entry result) }
+        ensures value { IfOk result (λ lent. lent.now ≡ unwrap_or (stored self.entry) default) }
+        ensures given { IfErr result (λ refused. HasKey self.entry refused.given.0 × (refused.given.1 ≡ default)) }
+        ensures present { is_taken self.entry ≡ true → IsOk result }
+        ensures roomy { 1 ≤ (home self.entry).now.spare → IsOk result }
     {
-        match self {
-            Entry::Vacant(entry) => entry.insert(default),
-            Entry::Occupied(entry) => Ok(entry.into_mut()),
-        }
+        self.or_insert_with(|| default)
     }
 
     /// The stored value for writing, or the answer of `default`, which is put in at the given key. `default` is called
@@ -43,16 +40,16 @@ impl<'a, K: Ord, V> Entry<'a, K, V> {
     ///
     /// It is refused where `or_insert` is, and costs the same.
     pub fn or_insert_with<F: FnOnce() -> V>(self, default: F) -> Result<&'a mut V, Refused<(K, V)>>
-        requires { is_occupied self ≡ false → F.pre default }
-        ensures* writes_back { sem 𝓛 (entry_lends_ok K.row V.row self.entry result) }
-        ensures value { IfOk result (λ r. UnwrapsOrElse (entry_value self.entry) (F.post default) r.now) }
-        ensures given { IfErr result (λ refused. has_key self.entry refused.given.0 × F.post default refused.given.1) }
-        ensures present { is_occupied self.entry ≡ true → IsOk result }
-        ensures roomy { 1 ≤ (entry_map_ref self.entry).now.spare → IsOk result }
+        requires { is_taken self ≡ false → F.pre default }
+        ensures* writes_back { sem 𝓛 (writes_through_if_ok K.row V.row self.entry result) }
+        ensures value { IfOk result (λ lent. UnwrapsOrElse (stored self.entry) (F.post default) lent.now) }
+        ensures given { IfErr result (λ refused. HasKey self.entry refused.given.0 × F.post default refused.given.1) }
+        ensures present { is_taken self.entry ≡ true → IsOk result }
+        ensures roomy { 1 ≤ (home self.entry).now.spare → IsOk result }
     {
         match self {
-            Entry::Vacant(entry) => entry.insert(default()),
-            Entry::Occupied(entry) => Ok(entry.into_mut()),
+            Entry::Vacant(free) => free.insert(default()),
+            Entry::Occupied(taken) => Ok(taken.into_mut()),
         }
     }
 
@@ -62,33 +59,27 @@ impl<'a, K: Ord, V> Entry<'a, K, V> {
     pub fn or_default(self) -> Result<&'a mut V, Refused<(K, V)>>
     where
         V: Default,
-        ensures* writes_back { sem 𝓛 (entry_lends_ok K.row V.row self.entry result) }
-        ensures value { IfOk result (λ r. UnwrapsOrElse (entry_value self.entry) V.is_default r.now) }
-        ensures given { IfErr result (λ refused. has_key self.entry refused.given.0 × V.is_default refused.given.1) }
-        ensures present { is_occupied self.entry ≡ true → IsOk result }
-        ensures roomy { 1 ≤ (entry_map_ref self.entry).now.spare → IsOk result }
+        ensures* writes_back { sem 𝓛 (writes_through_if_ok K.row V.row self.entry result) }
+        ensures value { IfOk result (λ lent. UnwrapsOrElse (stored self.entry) V.is_default lent.now) }
+        ensures given { IfErr result (λ refused. HasKey self.entry refused.given.0 × V.is_default refused.given.1) }
+        ensures present { is_taken self.entry ≡ true → IsOk result }
+        ensures roomy { 1 ≤ (home self.entry).now.spare → IsOk result }
     {
         match self {
-            Entry::Vacant(entry) => entry.insert(V::default()),
-            Entry::Occupied(entry) => Ok(entry.into_mut()),
+            Entry::Occupied(taken) => Ok(taken.into_mut()),
+            Entry::Vacant(free) => free.insert(V::default()),
         }
     }
 
     /// Calls `f` on the stored value, exactly where the entry is occupied, and answers the entry. It takes no memory.
-    pub fn and_modify<F: FnOnce(&mut V)>(self, f: F) -> Entry<'a, K, V>
-        requires { (v : MutBor V) → entry_value self ≡ Some v.now → F.pre f v }
-        ensures same_map { (entry_map_ref result).ghost_name ≡ (entry_map_ref self.entry).ghost_name }
-        ensures same_kind { is_occupied result ≡ is_occupied self.entry }
-        ensures same_key { entry_key result ≡ entry_key self.entry }
-        ensures modified { ModifiesValue F.FnOnce f (entry_value self.entry) (entry_value result) }
-        ensures written { (w : V) → entry_written result w ≡ entry_written self.entry w }
+    pub fn and_modify<F: FnOnce(&mut V)>(mut self, f: F) -> Entry<'a, K, V>
+        requires { (v : MutBor V) → stored self ≡ Some v.now → F.pre f v }
+        ensures place { IsSamePlace self.entry result }
+        ensures modified { ModifiesValue F.FnOnce f (stored self.entry) (stored result) }
     {
-        match self {
-            Entry::Vacant(entry) => Entry::Vacant(entry),
-            Entry::Occupied(mut entry) => {
-                f(entry.get_mut());
-                Entry::Occupied(entry)
-            }
+        if let Entry::Occupied(taken) = &mut self {
+            f(taken.get_mut());
         }
+        self
     }
 }

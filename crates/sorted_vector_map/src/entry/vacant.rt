@@ -1,7 +1,7 @@
 //! The calls of a vacant entry.
-ghost use Rattle.std.specs.Prelude.{Some, ◌≡◌, ◌≤◌, IsOk, IfOk, IfErr};
+ghost use Rattle.std.specs.Prelude.{◌≡◌, ◌≤◌, IsOk, IfOk, IfErr};
 ghost use Rattle.std.specs.Borrow.{sem};
-ghost use Rattle.sorted_vector_map.specs.Entry.{Vacant, entry_map_ref, entry_key, entry_lends_ok, has_key};
+ghost use Rattle.sorted_vector_map.specs.Entry.{Vacant, home, HasKey, writes_through_if_ok};
 
 use super::VacantEntry;
 use element_core::Refused;
@@ -9,15 +9,15 @@ use element_core::Refused;
 impl<'a, K: Ord, V> VacantEntry<'a, K, V> {
     /// The given key. It takes O(1) time and no memory.
     pub fn key(&self) -> &K
-        ensures { entry_key (Vacant self.now) ≡ Some result.now }
+        ensures { HasKey (Vacant self.now) result.now }
     {
         &self.key
     }
 
     /// The given key, by value. The map stays.
     pub fn into_key(self) -> K
-        ensures key { entry_key (Vacant self.entry) ≡ Some result }
-        ensures unchanged { self.exit.0.now ≡ (entry_map_ref (Vacant self.entry)).now }
+        ensures key { HasKey (Vacant self.entry) result }
+        ensures map { self.exit.0.now ≡ (home (Vacant self.entry)).now }
     {
         self.key
     }
@@ -27,13 +27,12 @@ impl<'a, K: Ord, V> VacantEntry<'a, K, V> {
     /// Where memory is short the map stays, and the key and `value` come back; that never happens where the map has
     /// spare. The pairs of greater keys move.
     pub fn insert(self, value: V) -> Result<&'a mut V, Refused<(K, V)>>
-        ensures* writes_back { sem 𝓛 (entry_lends_ok K.row V.row (Vacant self.entry) result) }
-        ensures value { IfOk result (λ r. r.now ≡ value) }
-        ensures given { IfErr result (λ refused. has_key (Vacant self.entry) refused.given.0 × (refused.given.1 ≡ value)) }
-        ensures roomy { 1 ≤ (entry_map_ref (Vacant self.entry)).now.spare → IsOk result }
+        ensures* writes_back { sem 𝓛 (writes_through_if_ok K.row V.row (Vacant self.entry) result) }
+        ensures value { IfOk result (λ lent. lent.now ≡ value) }
+        ensures given { IfErr result (λ refused. HasKey (Vacant self.entry) refused.given.0 × (refused.given.1 ≡ value)) }
+        ensures roomy { 1 ≤ (home (Vacant self.entry)).now.spare → IsOk result }
     {
-        let at = self.at;
-        let map = self.map;
-        map.insert_mut_at(at, self.key, value)
+        let VacantEntry { map, key, at, .. } = self;
+        map.insert_mut_at(at, key, value)
     }
 }

@@ -5,4 +5,4 @@ use Rattle.set_document.proofs.answer.evaluate.Goals as goal
 
 pub returns-clause-lines : goal.returns-clause-lines
 unfolding listed
-returns-clause-lines c = shown_are_runs c.in_ok-lines.lines.items (named c.args.text.now) c.in_ok-lines.ensures.canonical c.in_ok-lines.ensures.lines
+returns-clause-lines c = shown_are_runs c.in_ok-done.done.lines.items (named c.args.text.now) c.in_ok-done.ensures.canonical c.in_ok-done.ensures.lines

@@ -1,18 +1,21 @@
-use Rattle.std.proofs.Common.{◌≡◌, Some, refl, sym, ap, ◌∙◌}
-use Rattle.ordered_lists.proofs.PairLemmas.{key_set, value_set, set_twice}
-use Rattle.sorted_vector_map.specs.Entry.{entry_key, entry_value, entry_written}
+use Rattle.std.proofs.Common.{◌≡◌, Some, refl, ap, ◌∙◌}
+use Rattle.sorted_vector_map.specs.Entry.{stored}
+use Rattle.sorted_vector_map.proofs.EntryLemmas.{same_as_before, stays_in_place, stores}
 use Rattle.sorted_vector_map.proofs.entry.Entry.and_modify.Goals as goal
+use Rattle.sorted_vector_map.proofs.entry.Entry.and_modify.Goals.{in-Occupied, in_default}
 
-pub returns-in-Occupied-clause-same_key : goal.returns-in-Occupied-clause-same_key
-returns-in-Occupied-clause-same_key g c =
-    key_set c.in-Occupied.entry.map.now.pairs c.in-Occupied.entry.at c.f.new.arg2 ∙ ap (λ e. entry_key e) (sym c.in-Occupied.is)
+pub returns-clause-place : goal.returns-clause-place
+returns-clause-place g c = elim c.match-self.branch [
+  | in-Occupied w ↦ rw (w.self-is, w.in-Occupied.is) (stays_in_place w.in-Occupied.taken w.f.new.arg2)
+  | in_default w ↦ rw w.self-is (same_as_before c.args.self)
+]
 
-pub returns-in-Occupied-clause-modified : goal.returns-in-Occupied-clause-modified
-returns-in-Occupied-clause-modified g c =
-    let old : entry_value c.args.self ≡ Some c.get_mut.result.now = ap (λ e. entry_value e) c.in-Occupied.is ∙ c.get_mut.ensures.value in
-    rw (old, value_set c.in-Occupied.entry.map.now.pairs c.in-Occupied.entry.at c.f.new.arg2 c.in-Occupied.entry.within)
-    (record { lent = c.get_mut.result; result = c.f.result; left = record c.get_mut.result { now = c.f.new.arg2 }; before = refl; met = c.f.ensures; after = refl })
-
-pub returns-in-Occupied-clause-written : goal.returns-in-Occupied-clause-written
-returns-in-Occupied-clause-written g c w =
-    set_twice c.in-Occupied.entry.map.now.pairs c.in-Occupied.entry.at c.f.new.arg2 w ∙ ap (λ e. entry_written e w) (sym c.in-Occupied.is)
+pub returns-clause-modified : goal.returns-clause-modified
+returns-clause-modified g c = elim c.match-self.branch [
+  | in-Occupied w ↦
+      let called : stored c.args.self ≡ Some w.get_mut.result.now = ap (λ e. stored e) w.in-Occupied.is ∙ w.get_mut.ensures.value in
+      let left : stored c.match-self.self ≡ Some w.f.new.arg2 = ap (λ e. stored e) w.self-is ∙ stores w.in-Occupied.taken w.f.new.arg2 in
+      let now = record w.get_mut.result { now = w.f.new.arg2 } in
+      rw (called, left) (record { lent = w.get_mut.result; result = w.f.result; left = now; before = refl; met = w.f.ensures; after = refl })
+  | in_default w ↦ rw (w.self-is, w.in_default.is) refl
+]

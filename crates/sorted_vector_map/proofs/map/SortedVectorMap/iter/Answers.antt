@@ -1,9 +1,9 @@
+use Rattle.std.proofs.Common.{ap, ◌∙◌}
 use Rattle.std.specs.Map.Iter.{deref_pair}
-use Rattle.std_collections.proofs.IterRuns.{shows_in_order, shows_in_reverse}
+use Rattle.sorted_vector_map.specs.Content.{Content}
+use Rattle.sorted_vector_map.proofs.ComingLemmas.{comes_by_reference}
 use Rattle.sorted_vector_map.proofs.map.SortedVectorMap.iter.Goals as goal
 
-pub returns-clause-runs : goal.returns-clause-runs
-returns-clause-runs g c = shows_in_order deref_pair
-
-pub returns-clause-runs_back : goal.returns-clause-runs_back
-returns-clause-runs_back g c = shows_in_reverse deref_pair
+pub returns-clause-pairs : goal.returns-clause-pairs
+returns-clause-pairs g c =
+    comes_by_reference deref_pair _ _ (c.new.ensures.all ∙ c.deref.ensures.value ∙ ap (λ (m : Content g.row.K.Denot g.row.V.Denot). m.pairs) c.self.view_is) c.new.ensures.countable

@@ -8,4 +8,4 @@ returns g c =
     let same : c.self.inside.items.items ≡ c.args.self.now.pairs = ap (λ (m : Content g.row.K.Denot g.row.V.Denot). m.pairs) c.self.view_is in
     let whole = c.deref.ensures.value ∙ same in
     let n : c.max-end.result - c.start_of-start.result ≡ c.end_of.result - c.start_of-start.result = omega (arith, c.max-end.ensures) in
-    c.new.ensures ∙ (λ i. take (n i) (drop c.start_of-start.result (whole i))) ∙ cut_between _ _ _ _ _ c.start_of-start.ensures c.end_of.ensures
+    c.new.ensures.all ∙ (λ i. take (n i) (drop c.start_of-start.result (whole i))) ∙ cut_between _ _ _ _ _ c.start_of-start.ensures c.end_of.ensures

@@ -1,9 +1,9 @@
 use Rattle.std.specs.Map.Iter.{deref}
-use Rattle.std_collections.proofs.IterRuns.{shows_in_order, shows_in_reverse}
+use Rattle.sorted_vector_map.proofs.ComingLemmas.{parts_come_by_reference}
 use Rattle.sorted_vector_map.proofs.map.SortedVectorMap.values.Goals as goal
 
-pub returns-clause-runs : goal.returns-clause-runs
-returns-clause-runs g c = shows_in_order deref
-
-pub returns-clause-runs_back : goal.returns-clause-runs_back
-returns-clause-runs_back g c = shows_in_reverse deref
+pub returns : goal.returns
+returns g c = record {
+  values =
+      parts_come_by_reference deref (λ (p : g.row.K.Denot × g.row.V.Denot). p.1) _ _ _ c.iter.ensures.pairs.all c.iter.ensures.pairs.countable c.of.ensures;
+}

@@ -1,0 +1,162 @@
+//! The values of a map for writing, in the order of their keys.
+ghost use types.Logic.{sem};
+ghost use Rattle.std.specs.Prelude.{◌≡◌, ◌^◌, ◌<◌, ◌&&◌, not, length, map};
+ghost use Rattle.std.specs.Iterator.{at_most};
+ghost use Rattle.std.specs.List.{filter};
+ghost use Rattle.std.specs.List.Sorted.{IsStrictlySortedBy};
+ghost use Rattle.std.specs.Map.Iter.{deref_pair_mut};
+ghost use Rattle.std.specs.Range.Bound.{bound_map};
+ghost use Rattle.ordered_lists.specs.Lists.{by_key};
+ghost use Rattle.sorted_vector_map.specs.Bounds.{is_before, is_within, AreInOrder};
+ghost use Rattle.sorted_vector_map.specs.Hints.{IsExact};
+ghost use Rattle.sorted_vector_map.specs.Lending.{LendsFirstOf, LendsLastOf, LendsInOrder, LendsInReverse, deref_mut};
+ghost use Rattle.sorted_vector_map.specs.Refilled.{lends_values, KeepsKeys, KeepsLength};
+ghost use Rattle.sorted_vector_map.specs.Slots.{pair_of, cell_of};
+
+use crate::lent::Lent;
+use crate::map::SortedVectorMap;
+use crate::slot::Slot;
+use crate::values_mut::ValuesMut;
+use std::iter::ExactSizeIterator;
+use std::marker::Model;
+use std::ops::Bound;
+
+impl<K: Ord, V> SortedVectorMap<K, V> {
+    /// The pairs in the order of their keys, with their values for writing. The keys, their order and their number
+    /// stay. Made in O(1) time and without memory.
+    ///
+    /// ```ignore
+    /// for (_, price) in prices.iter_mut() {
+    ///     *price *= 2;
+    /// }
+    /// ```
+    pub fn iter_mut(&mut self) -> IterMut<'_, K, V>
+        ensures* writes_back { sem 𝓛 (lends_values K.row V.row K.Ord self.entry result.loan) }
+        ensures keys { KeepsKeys self.old }
+        ensures len { KeepsLength self.old }
+        ensures rest { result.rest ≡ self.old.pairs }
+        ensures ascending { IsStrictlySortedBy (by_key K.cmp) self.old.pairs }
+        ensures fits { length result.rest < 2 ^ 64 }
+        ensures runs { LendsInOrder (deref_pair_mut {K = K} {X = V}) }
+        ensures runs_back { LendsInReverse (deref_pair_mut {K = K} {X = V}) }
+    {
+        let (slots, lent) = self.lend();
+        IterMut::new(slots, lent)
+    }
+
+    /// The values in the order of their keys, for writing. Made in O(1) time and without memory.
+    pub fn values_mut(&mut self) -> ValuesMut<'_, K, V>
+        ensures* writes_back { sem 𝓛 (lends_values K.row V.row K.Ord self.entry result.loan) }
+        ensures keys { KeepsKeys self.old }
+        ensures len { KeepsLength self.old }
+        ensures rest { result.rest ≡ map (λ p. p.1) self.old.pairs }
+        ensures runs { LendsInOrder (deref_mut {V = V}) }
+        ensures runs_back { LendsInReverse (deref_mut {V = V}) }
+    {
+        ValuesMut {
+            pairs: self.iter_mut(),
+        }
+    }
+
+    /// The pairs whose keys lie within `low` and `high`, with their values for writing. The bounds are in order: the
+    /// low key is at most the high one, and they aren't equal and both excluded. It takes O(log n) comparisons and no
+    /// memory.
+    pub fn range_mut(&mut self, low: Bound<&K>, high: Bound<&K>) -> IterMut<'_, K, V>
+        requires { AreInOrder K.cmp (bound_map (λ k. k.now) low) (bound_map (λ k. k.now) high) }
+        ensures* writes_back { sem 𝓛 (lends_values K.row V.row K.Ord self.entry result.loan) }
+        ensures keys { KeepsKeys self.old }
+        ensures len { KeepsLength self.old }
+        ensures rest { result.rest ≡ filter (λ p. not (is_before K.cmp (bound_map (λ k. k.now) low.entry) p.0) && is_within K.cmp (bound_map (λ k. k.now) high.entry) p.0) self.old.pairs }
+    {
+        let start = self.start_of(low);
+        let end = self.end_of(high).max(start);
+        let (slots, mut lent) = self.lend();
+        lent.narrow(start, end - start);
+        IterMut::new(&slots[start..end], lent)
+    }
+}
+
+impl<'map, K: Ord, V> IntoIterator for &'map mut SortedVectorMap<K, V> {
+    type Item = (&'map K, &'map mut V);
+
+    type IntoIter = IterMut<'map, K, V>;
+
+    ghost into_iter_gives = { λ m r. (r.rest ≡ m.now.pairs) × (length r.rest < 2 ^ 64) × LendsInOrder (deref_pair_mut {K = K} {X = V}) × LendsInReverse (deref_pair_mut {K = K} {X = V}) × IsStrictlySortedBy (by_key K.cmp) m.now.pairs };
+
+    fn into_iter(self) -> IterMut<'map, K, V>
+        ensures* writes_back { sem 𝓛 (lends_values K.row V.row K.Ord self.entry result.loan) }
+        ensures into_iter_gives { (result.rest ≡ self.old.pairs) × (length result.rest < 2 ^ 64) × LendsInOrder (deref_pair_mut {K = K} {X = V}) × LendsInReverse (deref_pair_mut {K = K} {X = V}) × IsStrictlySortedBy (by_key K.cmp) self.old.pairs }
+        ensures keys { KeepsKeys self.old }
+        ensures len { KeepsLength self.old }
+    {
+        self.iter_mut()
+    }
+}
+
+/// The pairs of a map that are still to come, with their values for writing.
+///
+/// It gives them from both ends, in O(1) time each and without memory, and its hint is their exact number.
+#[derive(Drop)]
+pub struct IterMut<'map, K, V> {
+    slots: &'map [Slot<K, V>],
+    lent: Lent<'map, V>,
+}
+
+impl<'map, K, V> Model for IterMut<'map, K, V> {
+    ghost use Rattle.std.specs.Prelude.{◌≡◌, map};
+    ghost use Rattle.sorted_vector_map.specs.Lending.{Lending};
+    ghost use Rattle.sorted_vector_map.specs.Slots.{pair_of, cell_of};
+
+    ghost Value = { Lending (K × V) };
+
+    ghost view = { λ it. record { rest = map pair_of it.slots.now; loan = it.lent.tie } };
+
+    ghost invariant = { λ it. it.lent.cells ≡ map cell_of it.slots.now };
+}
+
+impl<'map, K, V> IterMut<'map, K, V> {
+    fn new(slots: &'map [Slot<K, V>], lent: Lent<'map, V>) -> Self
+        requires { lent.cells ≡ map cell_of slots.now }
+        ensures rest { result.rest ≡ map pair_of slots.now }
+        ensures loan { result.loan ≡ lent.entry.tie }
+    {
+        IterMut { slots, lent }
+    }
+}
+
+impl<'map, K, V> Iterator for IterMut<'map, K, V> {
+    type Item = (&'map K, &'map mut V);
+
+    ghost next_gives = { LendsFirstOf deref_pair_mut };
+
+    ghost remaining = { λ it. at_most (length it.rest) };
+
+    fn next(&mut self) -> Option<Self::Item> {
+        let (slot, rest) = self.slots.split_first()?;
+        self.slots = rest;
+        Some(slot.take_first(&mut self.lent))
+    }
+
+    fn size_hint(&self) -> (usize, Option<usize>)
+        ensures { IsExact (length self.now.rest) result }
+    {
+        let len = self.slots.len();
+        (len, Some(len))
+    }
+}
+
+impl<'map, K, V> DoubleEndedIterator for IterMut<'map, K, V> {
+    ghost next_back_gives = { LendsLastOf deref_pair_mut };
+
+    fn next_back(&mut self) -> Option<Self::Item> {
+        let (slot, rest) = self.slots.split_last()?;
+        self.slots = rest;
+        Some(slot.take_last(&mut self.lent))
+    }
+}
+
+impl<'map, K, V> ExactSizeIterator for IterMut<'map, K, V> {
+    fn len(&self) -> usize {
+        self.slots.len()
+    }
+}
