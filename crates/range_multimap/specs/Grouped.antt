@@ -1,4 +1,4 @@
--- The values of the pairs whose ranges hold a number. (Written by the lead: set_document stands on these names.)
+-- The values of the pairs whose ranges hold a number.
 use Rattle.std.specs.Prelude.{ℤ, if◌then◌else◌, Option, Some, None, List, [], ◌∷◌}
 use Rattle.number_line.specs.Ranges.{lies_in}
 
@@ -7,7 +7,7 @@ abbrev pub grouped_at : {V : Type 0} → List ((ℤ × ℤ) × V) → ℤ → Li
 grouped_at [] x = []
 grouped_at (p ∷ rest) x = if lies_in p.0 x then p.1 ∷ grouped_at rest x else grouped_at rest x
 
--- a group, where it isn't empty
+-- the values as a group, or none where there are none
 abbrev pub group_of : {V : Type 0} → List V → Option (List V)
 group_of [] = None
 group_of (v ∷ vs) = Some (v ∷ vs)
