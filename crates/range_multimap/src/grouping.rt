@@ -9,7 +9,7 @@ ghost use Rattle.range_multimap.specs.Grouped.{grouped_at, group_of};
 use crate::grouped::Group;
 use element_core::{Element, NoMemory};
 use range_map::sweep::{ActivePlaces, Bounds, Labelling, clone_at, sweep};
-use range_map::{Range, RangeMap};
+use range_map::{Range, RangeMap, TryFromIterError};
 use std::alloc::Global;
 use std::collections::BTreeSet;
 
@@ -81,7 +81,11 @@ pub(crate) fn group_pairs<T: Element, V: Eq + Clone + Drop>(
     let cells = cells_of(alloc, pairs)?;
     match RangeMap::try_from_iter(alloc, cells) {
         Ok(map) => Ok(map),
-        // Cells don't overlap, so this is want of memory.
-        Err(_) => Err(NoMemory),
+        Err(TryFromIterError::NoMemory) => Err(NoMemory),
+        Err(TryFromIterError::Overlap(_)) => {
+            // The cells don't overlap.
+            prove!(false);
+            Err(NoMemory)
+        }
     }
 }
