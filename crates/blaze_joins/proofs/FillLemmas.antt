@@ -1,14 +1,14 @@
 -- A canonical list whose gaps are filled, from its first range on.
-use Rattle.std.proofs.Common.{◌≡◌, List, [], ◌∷◌, refl, ap, arith, sym, ◌∙◌}
-use Rattle.std.specs.Prelude.{ℤ, pos, ◌+ℤ◌, ◌-ℤ◌, ◌≤ℤ◌, ◌<ℤ◌, Bool, true, Option, Some, None}
+use Rattle.std.proofs.Common.{◌≡◌, List, [], ◌∷◌, refl, arith}
+use Rattle.std.specs.Prelude.{ℤ, pos, ◌+ℤ◌, ◌-ℤ◌, Bool, true, Option, Some, None}
 use Rattle.std.specs.Option.{option_eq}
 use Rattle.std.specs.Cmp.{IsEquivalence}
 use Rattle.std.specs.Cmp.Lexicographic.{options_equiv}
 use Rattle.std.proofs.lemmas.Int.{ints}
-use Rattle.number_line.specs.Valued.{value_at, IsCanonicalMap}
+use Rattle.number_line.specs.Valued.{value_at}
 use Rattle.range_map.specs.Sweep.{IsLabelled, IsSwept}
 use Rattle.range_map.proofs.SweepLemmas.{swept_start, swept_to, swept_range}
-use Rattle.blaze_joins.proofs.UniversalLemmas.{IsLeftFrom, left_start, left_step, no_value_in_gap, value_in_range, no_value_at_end}
+use Rattle.blaze_joins.proofs.UniversalLemmas.{IsLeftFrom, no_value_in_gap, value_in_range, no_value_at_end}
 
 module _ {V : Type 0} (same : V → V → Bool) (eq : IsEquivalence same) (lo hi : ℤ) (all : List ((ℤ × ℤ) × V)) where
   -- what fill_gaps gives to each number

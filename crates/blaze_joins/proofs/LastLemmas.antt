@@ -1,6 +1,6 @@
 -- The last pair that holds a number, by the places of those that do.
-use Rattle.std.proofs.Common.{◌≡◌, ℕ, zero, suc, ◌+◌, ◌<◌, List, [], ◌∷◌, ◌++◌, length, refl, ap, arith, sym, ◌∙◌}
-use Rattle.std.specs.Prelude.{ℤ, Bool, true, false, if◌then◌else◌, Option, Some, None, reverse}
+use Rattle.std.proofs.Common.{◌≡◌, ℕ, suc, ◌+◌, ◌<◌, List, [], ◌∷◌, ◌++◌, length, refl, ap, arith, sym, ◌∙◌}
+use Rattle.std.specs.Prelude.{ℤ, Bool, true, false, if◌then◌else◌, Some, None, reverse}
 use Rattle.std.specs.List.{slice_get}
 use Rattle.std.specs.Option.{option_or}
 use Rattle.std.proofs.lemmas.List.{reverse-append}

@@ -1,5 +1,6 @@
 //! What no contract shows: that the calls succeed where memory suffices, and that the contracts say what is meant.
 use crate::RangeMapBlaze;
+use crate::callers::{filled, has_value};
 use element_core::{Element, NoMemory};
 use range_map::Range;
 use std::alloc::Global;
@@ -120,5 +121,20 @@ fn maps_are_equal_by_their_values(rt: HostRuntime) -> Result<(), Fail> {
     let other = map_of(alloc, [(5, 9, 7), (1, 8, 7)].as_slice())?;
     let shorter = map_of(alloc, [(1, 8, 7)].as_slice())?;
     assert!(rt; one == other && one != shorter);
+    Ok(())
+}
+
+#[test]
+fn a_caller_asks_for_keys(rt: HostRuntime) -> Result<(), Fail> {
+    let alloc = rt.alloc();
+    let mut list = Vec::new(alloc);
+    list.push((Range::new(i64::MIN, -1), 3))?;
+    let map = RangeMapBlaze::from_pairs(alloc, list)?;
+    assert!(rt; has_value(&map, i64::MIN) && has_value(&map, -1) && !has_value(&map, 0));
+    let full = filled(alloc, &map)?;
+    assert_eq!(rt;
+        listed(alloc, &full)?.as_slice(),
+        [(i64::MIN, -1, Some(3)), (0, i64::MAX, None)].as_slice()
+    );
     Ok(())
 }

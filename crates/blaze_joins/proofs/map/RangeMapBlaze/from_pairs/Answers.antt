@@ -1,4 +1,3 @@
-use Rattle.range_map.specs.Valued.{pairs_in_numbers}
 use Rattle.blaze_joins.proofs.map.RangeMapBlaze.from_pairs.Goals as goal
 
 pub returns-clause-values : goal.returns-clause-values

@@ -1,0 +1,2 @@
+pub mod ClonedLemmas
+pub mod GroupLemmas

@@ -1,0 +1,94 @@
+//! The values of the ranges that hold a key.
+ghost use Rattle.std.specs.Prelude.{◌≡◌, IfOk, true};
+ghost use Rattle.std.specs.Cmp.Lexicographic.{pointwise};
+
+use element_core::NoMemory;
+use std::alloc::Global;
+use std::hash::{Hash, Hasher};
+use std::marker::Model;
+
+/// The values of the ranges that hold a key, in the order in which these came and as often as they hold it.
+///
+/// Contracts see a group as the list of its values. `RangeMultiMap::group` never makes an empty one.
+#[derive(Debug, Drop)]
+pub struct Group<V: Eq> {
+    pub(crate) values: Vec<V>,
+}
+
+impl<V: Eq> Model for Group<V> {
+    ghost use Rattle.std.specs.Prelude.{List};
+
+    ghost Value = { List V };
+
+    ghost view = { λ group. group.values.items };
+}
+
+/// Clones of the values, in their order.
+fn clones_of<V: Eq + Clone + Drop>(alloc: Global, values: &[V]) -> Result<Vec<V>, NoMemory>
+    requires { (a b : V) → V.is_clone a b → V.eq b a ≡ true }
+    ensures { IfOk result (λ copy. pointwise V.eq copy.items values.now ≡ true) }
+{
+    let mut copy = Vec::with_capacity(alloc, values.len())?;
+    for value in values {
+        copy.push(value.clone()?)?;
+    }
+    Ok(copy)
+}
+
+impl<V: Eq> Group<V> {
+    /// The values. Takes O(1) time and no memory.
+    pub fn as_slice(&self) -> &[V]
+        ensures { result.now ≡ self.now }
+    {
+        self.values.as_slice()
+    }
+
+    /// The values. Takes O(1) time and no memory.
+    pub fn into_vec(self) -> Vec<V>
+        ensures { result.items ≡ self }
+    {
+        self.values
+    }
+
+    /// A group equal to this one. Takes O(n) time for n values, beside their clones.
+    pub fn try_clone(&self, alloc: Global) -> Result<Self, NoMemory>
+    where
+        V: Clone + Drop,
+        requires { (a b : V) → V.is_clone a b → V.eq b a ≡ true }
+        ensures { IfOk result (λ copy. pointwise V.eq copy self.now ≡ true) }
+    {
+        let values = clones_of(alloc, self.values.as_slice())?;
+        Ok(Group { values })
+    }
+}
+
+impl<V: Eq> PartialEq for Group<V> {
+    ghost use Rattle.std.specs.Cmp.Lexicographic.{pointwise, lists_per};
+
+    ghost eq = { pointwise V.eq };
+
+    ghost laws = { lists_per V.PartialEq.laws };
+
+    fn eq(&self, other: &Group<V>) -> bool {
+        self.values == other.values
+    }
+}
+
+impl<V: Eq> Eq for Group<V> {
+    ghost use Rattle.std.specs.Cmp.Lexicographic.{lists_equiv};
+
+    ghost laws = { lists_equiv V.Eq.laws };
+}
+
+impl<V: Eq + Hash> Hash for Group<V> {
+    ghost use Rattle.std.specs.Hash as fed;
+    ghost use Rattle.std.specs.Hash.{items_Alike};
+
+    ghost hash_input = { fed.slice V.hash_input };
+
+    ghost respects_eq = { (items_Alike (record { fed = V.respects_eq })).fed };
+
+    fn hash<H: Hasher>(&self, state: &mut H) {
+        self.values.hash(state);
+    }
+}

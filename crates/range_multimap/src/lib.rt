@@ -1,0 +1,11 @@
+//! Ranges with values that may overlap, kept in the order in which they came, and grouped into ranges that don't.
+#![tactic(auto)]
+
+mod grouped;
+mod grouping;
+mod multimap;
+#[cfg(test)]
+mod tests;
+
+pub use grouped::Group;
+pub use multimap::RangeMultiMap;
