@@ -19,7 +19,7 @@ read_map f (x ∷ xs) zero = refl
 read_map f (x ∷ xs) (suc i) = read_map f xs i
 
 -- the ranges of the numbers of a document are those in numbers
-numbers_are : {V : Type 0} (pairs : List ((ℤ × ℤ) × V)) → pairs_in_numbers (signed w64) pairs ≡ pairs
+pub numbers_are : {V : Type 0} (pairs : List ((ℤ × ℤ) × V)) → pairs_in_numbers (signed w64) pairs ≡ pairs
 numbers_are [] = refl
 numbers_are (p ∷ pairs) = ap (λ rest. p ∷ rest) (numbers_are pairs)
 

@@ -1,5 +1,5 @@
 -- From the ranges of names, grouped, placed and filled, to the rows of the table.
-use Rattle.std.proofs.Common.{◌≡◌, ℕ, zero, suc, ◌+◌, List, [], ◌∷◌, map, refl, sym, ◌∙◌, ap, reverse, arith}
+use Rattle.std.proofs.Common.{◌≡◌, ℕ, zero, suc, ◌+◌, List, [], ◌∷◌, map, refl, sym, ◌∙◌, ap, subst, reverse, arith, w64}
 use Rattle.std.specs.Prelude.{ℤ, pos, ◌+ℤ◌, ◌≤ℤ◌, ◌<ℤ◌, Bool, true, false, Option, Some, None, nat_eq, unwrap_or}
 use Rattle.std.specs.Cmp.Lexicographic.{pointwise}
 use Rattle.std.specs.Option.{option_map, option_eq}
@@ -10,7 +10,11 @@ use Rattle.number_line.specs.Segments.{segments}
 use Rattle.number_line.specs.Valued.{value_at, IsCanonicalMap, HasValues}
 use Rattle.number_line.specs.Rows.{revalued, segment_of, place_at, value_of_place, with_places}
 use Rattle.number_line.proofs.RowLemmas.{value_revalued, revalued_canonical, total_is_segments, value_is_placed, place_is_valued, nothing_is_placed, value_reversed, places_canonical, same_value_same_place}
-use Rattle.range_multimap.specs.Grouped.{group_of}
+use Rattle.element_core.specs.Numberings.{signed}
+use Rattle.blaze_joins.specs.LastValue.{last_value_at}
+use Rattle.range_map.specs.Valued.{pairs_in_numbers}
+use Rattle.range_multimap.specs.Grouped.{grouped_at, group_of}
+use Rattle.set_document.proofs.ReadLemmas.{numbers_are}
 use Rattle.set_document.specs.Table.{row_of}
 use Rattle.set_document.specs.Tabled.{held_at_place, tabled}
 
@@ -109,3 +113,12 @@ pub rows_are_segments : (lo hi : ℤ) (n : ℕ) (h : ℤ → List ℕ) (rows : L
 rows_are_segments lo hi n h rows e canonical values =
     let segmented = total_is_segments (pointwise nat_eq) list_is list_itself h hi lo n rows e canonical (λ x p q. ap (λ r. option_eq (pointwise nat_eq) r (Some (h x))) (values x p q) ∙ list_itself (h x)) in
     sym (row_read rows) ∙ ap (map row_of) segmented
+
+-- groups of what holds, and of the places of their ranges, in terms of the names that hold
+pub grouped_held : (lo hi : ℤ) (holders : List ((ℤ × ℤ) × ℕ)) (groups : List ((ℤ × ℤ) × List ℕ)) (h : ℤ → List ℕ) → ((x : ℤ) → grouped_at holders x ≡ h x)
+    → HasValues (pointwise nat_eq) (λ x. group_of (grouped_at holders x)) lo hi groups → HasValues (pointwise nat_eq) (λ x. group_of (h x)) lo hi groups
+grouped_held lo hi holders groups h e v = λ x p q. subst (λ vs. option_eq (pointwise nat_eq) (value_at groups x) (group_of vs) ≡ true) (e x) (v x p q)
+
+pub placed_groups : (lo hi : ℤ) (list places : List ((ℤ × ℤ) × ℕ)) (groups : List ((ℤ × ℤ) × List ℕ)) → list ≡ with_places 0 groups
+    → HasValues nat_eq (last_value_at (pairs_in_numbers (signed w64) list)) lo hi places → HasValues nat_eq (value_at (reverse (with_places 0 groups))) lo hi places
+placed_groups lo hi list places groups e v = subst (λ l. HasValues nat_eq (value_at (reverse l)) lo hi places) (numbers_are list ∙ e) v

@@ -104,6 +104,7 @@ fn places_of(
 }
 
 // The table of the lines that stand in `done`.
+#[tactic(auto, unfolding(crate::specs::Numbers::least, crate::specs::Numbers::greatest))]
 pub(crate) fn tabulate(alloc: Global, done: &NamedLines<'_>) -> Result<Table, NoMemory>
     requires indexed { IsIndex (names_of done.now.lines.items) done.now.latest.pairs }
     requires canonical { AllCanonical done.now.lines.items }
@@ -111,9 +112,10 @@ pub(crate) fn tabulate(alloc: Global, done: &NamedLines<'_>) -> Result<Table, No
     ensures values { IfOk result (λ table. (x : ℤ) → least ≤ℤ x → x ≤ℤ greatest
         → value_at (tabled table.groups table.slots) x ≡ Some (held (at (lines_of done.now.lines.items) x))) }
 {
-    let _holders = gather(alloc, done)?;
-    let groups = RangeMap::new(alloc);
+    let holders = gather(alloc, done)?;
+    let groups = holders.group(alloc)?;
     let places = places_of(alloc, &groups)?;
-    let _held: RangeMapBlaze<i64, usize> = RangeMapBlaze::from_pairs(alloc, places)?;
-    Err(NoMemory)
+    let held = RangeMapBlaze::from_pairs(alloc, places)?;
+    let slots = held.fill_gaps(alloc)?;
+    Ok(Table { groups, slots })
 }
