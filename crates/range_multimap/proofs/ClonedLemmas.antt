@@ -18,10 +18,12 @@ module _ {A B : Type 0} (same : A → B → Bool) where
   made_start made all none = record { completed = λ more h. rw none h }
 
   pub made_step : (made new : List A) (left rest all : List B) (a : A) (b : B) → new ≡ made ++ a ∷ [] → left ≡ b ∷ rest → same a b ≡ true → IsMade made left all → IsMade new rest all
-  made_step made new left rest all a b is_new is_left equal so_far = record { completed = λ more h.
-      let grouped : new ++ more ≡ made ++ a ∷ more = ap (λ xs. xs ++ more) is_new ∙ append_assoc made (a ∷ []) more in
-      let one : pointwise same (a ∷ more) left ≡ true = rw (is_left, equal) h in
-      rw grouped (so_far.completed (a ∷ more) one) }
+  made_step made new left rest all a b is_new is_left equal so_far = record {
+    completed = λ more h.
+        let grouped : new ++ more ≡ made ++ a ∷ more = ap (λ xs. xs ++ more) is_new ∙ append_assoc made (a ∷ []) more in
+        let one : pointwise same (a ∷ more) left ≡ true = rw (is_left, equal) h in
+        rw grouped (so_far.completed (a ∷ more) one);
+  }
 
   pub made_end : (made : List A) (left all : List B) → left ≡ [] → IsMade made left all → pointwise same made all ≡ true
   made_end made left all none so_far =

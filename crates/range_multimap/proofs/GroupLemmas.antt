@@ -54,8 +54,10 @@ module _ {T V : Type 0} where
     where
       places : List ℕ
       places = places_from 0 (ranges_of (pairs_in_numbers numbers rest)) x
+
       later : map (value_of_place (p ∷ rest)) (places_from 1 (ranges_of (pairs_in_numbers numbers rest)) x) ≡ map (value_of_place rest) places
       later = ap (map (value_of_place (p ∷ rest))) (places-next 0 (ranges_of (pairs_in_numbers numbers rest)) x) ∙ later_places p rest places
+
       by_case : (b : Bool) → map (value_of_place rest) places ≡ map (λ (v : V). Some v) (grouped_at (pairs_in_numbers numbers rest) x)
           → map (value_of_place (p ∷ rest)) (if b then 0 ∷ places_from 1 (ranges_of (pairs_in_numbers numbers rest)) x else places_from 1 (ranges_of (pairs_in_numbers numbers rest)) x)
           ≡ map (λ (v : V). Some v) (if b then p.1 ∷ grouped_at (pairs_in_numbers numbers rest) x else grouped_at (pairs_in_numbers numbers rest) x)

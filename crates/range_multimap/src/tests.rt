@@ -3,7 +3,14 @@ use crate::{Group, RangeMultiMap};
 use element_core::NoMemory;
 use range_map::{Range, RangeMap};
 use std::alloc::Global;
+use std::hash::{DefaultHasher, Hash, Hasher};
 use std::test::Fail;
+
+fn hash_of<T: Hash>(value: &T) -> u64 {
+    let mut state = DefaultHasher::new();
+    value.hash(&mut state);
+    state.finish()
+}
 
 /// The ends of each range of a map.
 fn ends_of(alloc: Global, map: &RangeMap<i32, Group<u8>>) -> Result<Vec<(i32, i32)>, NoMemory> {
@@ -41,5 +48,70 @@ fn overlapping_ranges_are_grouped(rt: HostRuntime) -> Result<(), Fail> {
     assert_eq!(rt; values_at(&groups, 99), [5].as_slice());
     assert_eq!(rt; values_at(&groups, 100), [5, 10].as_slice());
     assert_eq!(rt; values_at(&groups, i32::MAX), [10].as_slice());
+    Ok(())
+}
+
+#[test]
+fn equal_multimaps_and_groups(rt: HostRuntime) -> Result<(), Fail> {
+    let alloc = rt.alloc();
+    let map = low_and_high(alloc)?;
+    let copy = map.try_clone(alloc)?;
+    assert!(rt; copy == map && hash_of(&copy) == hash_of(&map) && copy.num_ranges() == 2);
+    let groups = map.group(alloc)?;
+    let middle = groups.get(150).expect(&rt, "150 has a group");
+    let same = middle.try_clone(alloc)?;
+    assert!(rt; same == *middle && hash_of(&same) == hash_of(middle));
+    assert_eq!(rt; same.into_vec().as_slice(), [5, 10].as_slice());
+    Ok(())
+}
+
+#[test]
+fn values_come_in_list_order_and_as_often(rt: HostRuntime) -> Result<(), Fail> {
+    let alloc = rt.alloc();
+    let mut map = RangeMultiMap::new(alloc);
+    assert!(rt; map.is_empty());
+    map.insert(Range::new(3, 8), 9)?;
+    map.insert(Range::new(1, 5), 7)?;
+    map.insert(Range::new(2, 4), 9)?;
+    assert!(rt; !map.is_empty() && map.num_ranges() == 3);
+    let groups = map.group(alloc)?;
+    assert_eq!(rt; values_at(&groups, 1), [7].as_slice());
+    assert_eq!(rt; values_at(&groups, 2), [7, 9].as_slice());
+    assert_eq!(rt; values_at(&groups, 4), [9, 7, 9].as_slice());
+    assert_eq!(rt; values_at(&groups, 5), [9, 7].as_slice());
+    assert!(rt; groups.get(0).is_none() && groups.get(9).is_none());
+    Ok(())
+}
+
+#[test]
+fn touching_equal_groups_join(rt: HostRuntime) -> Result<(), Fail> {
+    let alloc = rt.alloc();
+    let mut map = RangeMultiMap::new(alloc);
+    map.insert(Range::new(4, 6), 1)?;
+    map.insert(Range::new(1, 3), 1)?;
+    map.insert(Range::new(8, 9), 1)?;
+    let groups = map.group(alloc)?;
+    assert_eq!(rt;
+        ends_of(alloc, &groups)?.as_slice(),
+        [(1, 6), (8, 9)].as_slice()
+    );
+    Ok(())
+}
+
+#[test]
+fn pairs_keep_their_order(rt: HostRuntime) -> Result<(), Fail> {
+    let alloc = rt.alloc();
+    let mut map = RangeMultiMap::new(alloc);
+    map.insert(Range::new(3, 8), 9)?;
+    map.insert(Range::new(1, 5), 7)?;
+    let mut turned = RangeMultiMap::new(alloc);
+    turned.insert(Range::new(1, 5), 7)?;
+    turned.insert(Range::new(3, 8), 9)?;
+    assert!(rt; map != turned);
+    let mut values = Vec::new(alloc);
+    for pair in map.ranges_values() {
+        values.push((pair.0.start(), pair.1))?;
+    }
+    assert_eq!(rt; values.as_slice(), [(3, 9), (1, 7)].as_slice());
     Ok(())
 }
