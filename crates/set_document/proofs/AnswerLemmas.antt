@@ -51,9 +51,9 @@ unfolding shape listed names rows
 shape_is text done pairs groups slots canonical agree index rows_canonical values =
     let lines : shown_lines done ≡ map (λ l. (l.0, i64_runs l.1)) (named text) = shown_are_runs done (named text) canonical agree in
     let same_names : names_of done ≡ map (λ l. l.0) (named text) =
-        sym (names_at done least) ∙ (ap (map (λ l. l.0)) (agree least some_number.0 some_number.1) ∙ names_of_lines (named text) least) in
+    sym (names_at done least) ∙ (ap (map (λ l. l.0)) (agree least some_number.0 some_number.1) ∙ names_of_lines (named text) least) in
     let names' : map (λ p. letters p.0) pairs ≡ distinct (map (λ l. l.0) (named text)) = index_names (names_of done) pairs index ∙ ap distinct same_names in
     let rows' : tabled groups slots ≡ map row_of (segments (pointwise nat_eq) (λ x. held (at (named text) x)) least 18446744073709551615) =
-        rows_are_segments least greatest 18446744073709551615 (λ x. held (at (named text) x)) (tabled groups slots) width rows_canonical
-        (λ x p q. values x p q ∙ ap (λ lines. Some (held lines)) (agree x p q)) in
+    rows_are_segments least greatest 18446744073709551615 (λ x. held (at (named text) x)) (tabled groups slots) width rows_canonical
+    (λ x p q. values x p q ∙ ap (λ lines. Some (held lines)) (agree x p q)) in
     λ i. record { lines = lines i; names = names' i; rows = rows' i }

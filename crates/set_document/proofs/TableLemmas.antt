@@ -46,7 +46,6 @@ module _ (lo hi : ℤ) (h : ℤ → List ℕ) (groups : List ((ℤ × ℤ) × Li
     (groups_canonical : IsCanonicalMap (pointwise nat_eq) lo hi groups) (grouped : HasValues (pointwise nat_eq) (λ x. group_of (h x)) lo hi groups)
     (placed : HasValues nat_eq (value_at (reverse (with_places 0 groups))) lo hi places)
     (slots_canonical : IsCanonicalMap (option_eq nat_eq) lo hi slots) (filled : HasValues (option_eq nat_eq) (λ x. Some (value_at places x)) lo hi slots) where
-
   group_at : (x : ℤ) → lo ≤ℤ x → x ≤ℤ hi → value_at groups x ≡ group_of (h x)
   group_at x p q = option_is (pointwise nat_eq) list_is (value_at groups x) (group_of (h x)) (grouped x p q)
 

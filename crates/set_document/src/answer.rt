@@ -39,9 +39,9 @@ impl<'t> Model for Answer<'t> {
     ghost Value = { Shape };
 
     ghost view = { λ answer. record {
-        lines = shown_lines answer.done.lines.items;
-        names = map (λ p. letters p.0) answer.done.latest.pairs;
-        rows = tabled answer.table.groups answer.table.slots
+      lines = shown_lines answer.done.lines.items;
+      names = map (λ p. letters p.0) answer.done.latest.pairs;
+      rows = tabled answer.table.groups answer.table.slots;
     } };
 
     ghost invariant = { λ answer. IsIndex (names_of answer.done.lines.items) answer.done.latest.pairs };

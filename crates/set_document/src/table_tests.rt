@@ -122,7 +122,11 @@ fn rows_and_names_are_read_by_their_places(rt: HostRuntime) -> Result<(), Algebr
     }
     assert!(&rt; answer.row(4).is_some_and(|(_, held)| held.is_empty()));
     assert!(&rt; answer.row(7).is_none());
-    assert!(&rt; answer.name(1).is_some_and(|name| name.as_bytes() == b"b".as_slice()));
+    assert!(&rt;
+        answer
+            .name(1)
+            .is_some_and(|name| name.as_bytes() == b"b".as_slice())
+    );
     assert!(&rt; answer.name(2).is_none());
     Ok(())
 }
@@ -132,8 +136,12 @@ fn each_name_has_the_place_of_its_last_line(rt: HostRuntime) -> Result<(), Algeb
     let answer = evaluate(rt.alloc(), TWICE_NAMED.as_bytes())?;
     assert!(&rt; answer.names().len() == 2);
     let first = answer.names().get_key_value_at_index(0);
-    assert!(&rt; first.is_some_and(|(name, place)| name.as_bytes() == b"a".as_slice() && *place == 2));
+    assert!(&rt;
+        first.is_some_and(|(name, place)| name.as_bytes() == b"a".as_slice() && *place == 2)
+    );
     let second = answer.names().get_key_value_at_index(1);
-    assert!(&rt; second.is_some_and(|(name, place)| name.as_bytes() == b"b".as_slice() && *place == 1));
+    assert!(&rt;
+        second.is_some_and(|(name, place)| name.as_bytes() == b"b".as_slice() && *place == 1)
+    );
     Ok(())
 }

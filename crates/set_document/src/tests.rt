@@ -16,7 +16,9 @@ fn lists_of(rt: &impl Abort, alloc: Global, text: &[u8]) -> Result<Vec<u8>, Alge
         Ok(bytes) => bytes,
         Err(fault) => return Ok(format!(in alloc; "{fault}\n")?.into_bytes()),
     };
-    let table = bytes.windows(TABLE.len()).position(|window| window == TABLE);
+    let table = bytes
+        .windows(TABLE.len())
+        .position(|window| window == TABLE);
     assert!(rt; table.is_some());
     bytes.truncate(table.unwrap_or(0));
     Ok(bytes)
@@ -276,7 +278,8 @@ fn an_answer_is_read_by_its_indices(rt: HostRuntime) -> Result<(), AlgebraError>
     }
     assert!(&rt; answer.line(3).is_none());
     let bytes = answer.print(alloc)?;
-    let wanted = "a: 1..=1 3..=3 |\nc: empty\na: -9223372036854775808..=4 6..=9223372036854775807 |\n\
+    let wanted =
+        "a: 1..=1 3..=3 |\nc: empty\na: -9223372036854775808..=4 6..=9223372036854775807 |\n\
         # -9223372036854775808..=4 a\n# 5..=5\n# 6..=9223372036854775807 a\n";
     assert!(&rt; bytes.as_slice() == wanted.as_bytes());
     Ok(())

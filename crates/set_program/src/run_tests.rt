@@ -48,11 +48,7 @@ fn good_sink(alloc: Global) -> Result<MemorySink, Fail> {
 }
 
 // Each text ends `Done` with the answer that stands beside it.
-fn all_done(
-    rt: &impl Abort,
-    alloc: Global,
-    table: &[(&str, &str)],
-) -> Result<(), Fail> {
+fn all_done(rt: &impl Abort, alloc: Global, table: &[(&str, &str)]) -> Result<(), Fail> {
     for (text, answer) in table {
         let mut source = PlainSource::new(text.as_bytes().to_vec(alloc)?);
         let mut sink = good_sink(alloc)?;
@@ -301,7 +297,11 @@ fn reads_to_the_end_and_hands_all_that_is_left(rt: HostRuntime) -> Result<(), Fa
     assert_eq!(rt; source.handed(), reads.as_slice());
     assert_eq!(rt; sink.handed().len(), 25);
     for (turn, left) in sink.handed().iter().enumerate() {
-        assert_eq!(rt; left.saturating_add(turn.saturating_mul(4)), 98, "at write {turn}");
+        assert_eq!(rt;
+            left.saturating_add(turn.saturating_mul(4)),
+            98,
+            "at write {turn}"
+        );
     }
     assert_eq!(rt; sink.finishes(), 1);
     Ok(())

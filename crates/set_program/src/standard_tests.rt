@@ -73,6 +73,9 @@ fn runs_over_std(rt: HostRuntime) -> Result<(), Fail> {
     let status = run(alloc, &[], &mut source, &mut sink);
     assert_eq!(rt; status, Status::Done);
     drop(sink);
-    assert_eq!(rt; written.as_slice(), b"a: 1..=8\n# -9223372036854775808..=0\n# 1..=8 a\n# 9..=9223372036854775807\n".as_slice());
+    assert_eq!(rt;
+        written.as_slice(),
+        b"a: 1..=8\n# -9223372036854775808..=0\n# 1..=8 a\n# 9..=9223372036854775807\n".as_slice()
+    );
     Ok(())
 }

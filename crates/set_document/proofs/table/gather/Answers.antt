@@ -29,7 +29,7 @@ loop-place-preserved c =
     let place = c.in-Some.place.now in
     let next = c.in-Some.ensures.steps in
     elim c.match-get.branch [
-      in-Some-get+in_ok-push_ranges w ↦
+      | in-Some-get+in_ok-push_ranges w ↦
           let at_place = rw c.deref.ensures.value at w.in-Some-get.ensures.lookup in
           record {
             grouped = λ x.
@@ -38,4 +38,5 @@ loop-place-preserved c =
             placed = placed_rest (names_of lines) left rest name place i.placed next;
             count = omega (arith, i.count, ap length next);
           }
-    | in_default w ↦ absurd (line_is_there lines left rest name place i.placed next (rw c.deref.ensures.value at w.in_default.ensures.lookup.3)) ]
+      | in_default w ↦ absurd (line_is_there lines left rest name place i.placed next (rw c.deref.ensures.value at w.in_default.ensures.lookup.3))
+    ]
