@@ -1,10 +1,11 @@
 //! Putting many pairs in at once.
-ghost use Rattle.std.specs.Prelude.{Some, ◌≡◌, ◌≤◌, ◌+◌, ◌++◌, List, [], length, map, take, IfSome, IfNone, IfOk, IfErr, OnOk, OnErr, is_ok, if◌then◌else◌};
+ghost use Rattle.std.specs.Prelude.{Some, true, ◌≡◌, ◌≤◌, ◌+◌, ◌++◌, List, [], length, map, take, IfSome, IfNone, IfOk, IfErr, OnOk, OnErr, is_ok, if◌then◌else◌};
 ghost use Rattle.std.specs.Borrow.{Bor};
 ghost use Rattle.std.specs.Iterator.{IsFinite, Drains};
 ghost use Rattle.std.specs.List.Sorted.{IsPermutation, IsSorted, IsStrictlySortedBy};
 ghost use Rattle.std.specs.Vec.{vec_len};
 ghost use Rattle.ordered_lists.specs.Lists.{by_key, sets};
+ghost use Rattle.sorted_vector_map.specs.Cloned.{AreClones};
 ghost use Rattle.sorted_vector_map.specs.Grown.{extended, deref_both};
 
 use crate::map::SortedVectorMap;
@@ -130,14 +131,14 @@ impl<K: Ord, V> SortedVectorMap<K, V> {
         Ok(SortedVectorMap { items })
     }
 
-    /// An equal map with room for its pairs, in O(n) time. It takes memory, and is refused where there is none.
+    /// A map of clones of the pairs, in their order and with room for them, in O(n) time. The clone of a key is equal to
+    /// it. It takes memory, and is refused where there is none.
     pub fn try_clone(&self, alloc: Global) -> Result<Self, NoMemory>
     where
         K: Clone,
         V: Clone,
-        requires keys { (k copy : K) → K.is_clone k copy → copy ≡ k }
-        requires values { (v copy : V) → V.is_clone v copy → copy ≡ v }
-        ensures { IfOk result (λ m. m.pairs ≡ self.now.pairs) }
+        requires { (key copy : K) → K.is_clone key copy → K.eq copy key ≡ true }
+        ensures { IfOk result (λ m. AreClones K.is_clone V.is_clone self.now.pairs m.pairs) }
     {
         let mut items = Vec::with_capacity(alloc, self.items.len())?;
         items.extend_with_clones(&self.items)?;
