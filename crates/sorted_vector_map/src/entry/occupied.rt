@@ -52,7 +52,6 @@ impl<'a, K: Ord, V> OccupiedEntry<'a, K, V> {
         ensures stored { stored (Occupied self.new) ≡ Some value }
         ensures place { IsSamePlace (Occupied self.old) (Occupied self.new) }
         ensures pairs { (home (Occupied self.new)).now.pairs ≡ after_writing (Occupied self.old) value }
-        ensures spare { (home (Occupied self.new)).now.spare ≡ (home (Occupied self.old)).now.spare }
     {
         let stored = self.get_mut();
         replace(stored, value)
