@@ -3,10 +3,11 @@ ghost use Rattle.std.specs.Prelude.{Some, true, ◌≡◌, ◌≤◌, ◌+◌, �
 ghost use Rattle.std.specs.Borrow.{Bor};
 ghost use Rattle.std.specs.Iterator.{IsFinite, Drains};
 ghost use Rattle.std.specs.List.Sorted.{IsPermutation, IsSorted, IsStrictlySortedBy};
+ghost use Rattle.std.specs.Map.Iter.{deref_pair};
 ghost use Rattle.std.specs.Vec.{vec_len};
 ghost use Rattle.ordered_lists.specs.Lists.{by_key, sets};
 ghost use Rattle.sorted_vector_map.specs.Cloned.{AreClones};
-ghost use Rattle.sorted_vector_map.specs.Grown.{extended, deref_both};
+ghost use Rattle.sorted_vector_map.specs.Grown.{extended};
 
 use crate::map::SortedVectorMap;
 use crate::merge::{keep_last, merge, sort_by_key};
@@ -64,7 +65,7 @@ impl<K: Ord, V> SortedVectorMap<K, V> {
         K: Copy + 'a,
         V: Copy + 'a,
         requires { (it : I.IntoIter) → I.into_iter_gives iter it → I.IntoIter.can_next it × IsFinite (I.IntoIter.remaining it) }
-        ensures ok { OnOk result ((it : I.IntoIter) × (shown : List (Bor K × Bor V)) × I.into_iter_gives iter it × Drains I.IntoIter.next_gives it shown × (self.new.pairs ≡ extended K.cmp self.old.pairs (map deref_both shown))) }
+        ensures ok { OnOk result ((it : I.IntoIter) × (shown : List (Bor K × Bor V)) × I.into_iter_gives iter it × Drains I.IntoIter.next_gives it shown × (self.new.pairs ≡ extended K.cmp self.old.pairs (map deref_pair shown))) }
         ensures err { OnErr result (self.new.pairs ≡ self.old.pairs) }
     {
         let alloc = *self.items.allocator();
