@@ -36,8 +36,10 @@ impl<K: Ord, V> SortedVectorMap<K, V> {
         }
     }
 
-    /// Puts the pairs that `iter` gives in, as `extend_with_vec` does. Where memory is short the map stays, and the
-    /// pairs are gone.
+    /// Puts the pairs that `iter` gives in, as `extend_with_vec` does, and costs what it costs. The pairs are collected
+    /// first, in memory of their own.
+    ///
+    /// Where memory is short the map stays, and the pairs are gone.
     pub fn extend<I: IntoIterator<Item = (K, V)>>(&mut self, iter: I) -> Result<(), NoMemory>
     where
         K: Drop,
@@ -56,7 +58,9 @@ impl<K: Ord, V> SortedVectorMap<K, V> {
         Ok(())
     }
 
-    /// Puts copies of the pairs that `iter` gives in, as `extend_with_vec` does. Where memory is short the map stays.
+    /// Puts copies of the pairs that `iter` gives in, as `extend_with_vec` does, and costs what `extend` costs.
+    ///
+    /// Where memory is short the map stays.
     pub fn extend_copied<'a, I: IntoIterator<Item = (&'a K, &'a V)>>(
         &mut self,
         iter: I,
@@ -83,8 +87,9 @@ impl<K: Ord, V> SortedVectorMap<K, V> {
 
     /// Puts all pairs of `other` in, which is empty then. Of equal keys the pair of `other` stays.
     ///
-    /// Where memory is short both maps stay. It takes O(n + m) time, and only time for the pairs of `other` and for
-    /// those whose keys are above its least one.
+    /// Where memory is short both maps stay. It takes O(m) time for the m pairs of both maps whose keys aren't below the
+    /// least key of `other`, with one search for that key and amortised growth. Where this map is empty it takes O(1)
+    /// time and no memory.
     pub fn append(&mut self, other: &mut Self) -> Result<(), NoMemory>
     where
         K: Drop,
@@ -105,7 +110,8 @@ impl<K: Ord, V> SortedVectorMap<K, V> {
         Ok(())
     }
 
-    /// The map of the pairs that `iter` gives: `extend` of the empty map.
+    /// The map of the pairs that `iter` gives: `extend` of the empty map, in O(m log m) comparisons for m pairs. Where
+    /// memory is short it is refused, and the pairs are gone.
     pub fn try_from_iter<I: IntoIterator<Item = (K, V)>>(
         alloc: Global,
         iter: I,
@@ -121,7 +127,8 @@ impl<K: Ord, V> SortedVectorMap<K, V> {
         Ok(map)
     }
 
-    /// The map of the pairs of `bmap`, in O(n) time. Where memory is short they are gone.
+    /// The map of the pairs of `bmap`, in O(n) time and without comparisons. It takes memory for all pairs at once. Where
+    /// there is none it is refused, and the pairs are gone.
     pub fn try_from_btree_map(alloc: Global, bmap: BTreeMap<K, V>) -> Result<Self, NoMemory>
     where
         K: Drop,
