@@ -1,4 +1,5 @@
 pub mod RetainLemmas
+pub mod CloneLemmas
 pub mod ComingLemmas
 pub mod EntryLemmas
 pub mod RefillLemmas

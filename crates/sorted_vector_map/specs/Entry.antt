@@ -17,7 +17,6 @@ use Rattle.sorted_vector_map.specs.declared.entry.Entry.{Entry}
 use Rattle.sorted_vector_map.specs.declared.entry.OccupiedEntry.{OccupiedEntry}
 use Rattle.sorted_vector_map.specs.contracts.entry.OccupiedEntry as occupied
 use mir.Syntax.{named}
-use native.Mathlib.Bridge.{le_prop}
 
 module _ {K V : Type 0} {g : ord.Ghosts K} {g' : eq.Ghosts K} {g'' : partial.Ghosts K} where
   -- the map in which the entry stands, as it is lent
@@ -69,6 +68,7 @@ module _ {K V : Type 0} {g : ord.Ghosts K} {g' : eq.Ghosts K} {g'' : partial.Gho
   -- d and e stand at one key of one map, and differ at most in the value that is stored there
   pub record IsSamePlace (d e : Entry K V g g' g'') : Type 0 where
     pub lent : (home d).ghost_name ≡ (home e).ghost_name
+    pub spare : (home d).now.spare ≡ (home e).now.spare
     pub taken : is_taken d ≡ is_taken e
     pub key : key_at d ≡ key_at e
     pub written : (w : V) → after_writing d w ≡ after_writing e w
@@ -80,10 +80,6 @@ module _ {K V : Type 0} {g : ord.Ghosts K} {g' : eq.Ghosts K} {g'' : partial.Gho
   -- e, once w is stored there
   abbrev pub storing : OccupiedEntry K V g g' g'' → V → OccupiedEntry K V g g' g''
   storing e w = record { map = record e.map { now = record { pairs = after_writing (Occupied e) w; spare = e.map.now.spare } }; at = e.at; within = keeps_within e w }
-
-  -- two entries at one place of one map are the same
-  pub same_place : (m : MutBor (Content K V)) (i : ℕ) (a b : i < length m.now.pairs) → (let e : OccupiedEntry K V g g' g'' = record { map = m; at = i; within = a } in e) ≡ record { map = m; at = i; within = b }
-  same_place m i a b = λ j. record { map = m; at = i; within = le_prop a b j }
 
   -- how much spare it takes to write a value there
   abbrev pub cost : Entry K V g g' g'' → ℕ

@@ -1,6 +1,5 @@
 -- What many new pairs make of a map's pairs.
 use Rattle.std.specs.Prelude.{List, [], ◌∷◌}
-use Rattle.std.specs.Borrow.{Bor}
 use Rattle.std.specs.declared.cmp.Ordering.{Ordering}
 use Rattle.ordered_lists.specs.Lists.{by_key, put, sets}
 
@@ -9,7 +8,3 @@ abbrev pub extended : {K V : Type 0} → (K → K → Ordering) → List (K × V
 extended cmp ps [] = ps
 extended cmp ps (p ∷ []) = put cmp ps p.0 p.1
 extended cmp ps (p ∷ q ∷ new) = sets (by_key cmp) ps (p ∷ q ∷ new)
-
--- what a `(&K, &V)` points to
-abbrev pub deref_both : {K V : Type 0} → Bor K × Bor V → K × V
-deref_both p = (p.0.now, p.1.now)

@@ -1,5 +1,5 @@
 -- What a contract sees of an iterator that lends values for writing.
-use Rattle.std.specs.Prelude.{List}
+use Rattle.std.specs.Prelude.{◌≡◌, ◌^◌, ◌<◌, List, length}
 use Rattle.std.specs.Borrow.{MutBor}
 use Rattle.std.specs.declared.option.Option.{Option}
 use Rattle.std.specs.Iterator.Runs.{EveryRun, ItemsMapTo, ItemsMapToReversed}
@@ -31,3 +31,10 @@ module _ {A X : Type 0} (shows : A → X) where
   -- the same of `next_back`, in reverse
   abbrev pub LendsInReverse : Type 0
   LendsInReverse = EveryRun LendsLastOf (λ run. ItemsMapToReversed run shows run.from.rest)
+
+-- exactly xs are to come, with their values for writing, in this order from the front and in reverse from the back
+pub record ComesForWriting {A X : Type 0} (shows : A → X) (xs left : List X) : Type 0 where
+  pub all : left ≡ xs
+  pub countable : length left < 2 ^ 64
+  pub forwards : LendsInOrder shows
+  pub backwards : LendsInReverse shows

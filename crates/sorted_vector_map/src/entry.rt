@@ -13,11 +13,13 @@ mod vacant;
 /// The place of a key in a map, from `SortedVectorMap::entry`.
 #[derive(Drop)]
 pub enum Entry<'a, K: Ord, V> {
+    /// No stored key is equal to the given one, which the entry has.
     Vacant(VacantEntry<'a, K, V>),
+    /// A stored key is equal to the given one, and its pair stands here.
     Occupied(OccupiedEntry<'a, K, V>),
 }
 
-/// The place of a key that isn't present, and the key.
+/// The place of a key that isn't present, and the key, from `SortedVectorMap::entry`.
 #[derive(Drop)]
 pub struct VacantEntry<'a, K: Ord, V> {
     pub(crate) map: &'a mut SortedVectorMap<K, V>,
@@ -26,7 +28,7 @@ pub struct VacantEntry<'a, K: Ord, V> {
     ghost missing: { IsPairMissing K.cmp map.now.pairs key at },
 }
 
-/// The place of a pair that is stored.
+/// The place of a pair that is stored, from `SortedVectorMap::entry`, `first_entry` or `last_entry`.
 #[derive(Drop)]
 pub struct OccupiedEntry<'a, K: Ord, V> {
     pub(crate) map: &'a mut SortedVectorMap<K, V>,

@@ -1,11 +1,13 @@
 //! Putting many pairs in at once.
-ghost use Rattle.std.specs.Prelude.{Some, ◌≡◌, ◌≤◌, ◌+◌, ◌++◌, List, [], length, map, take, IfSome, IfNone, IfOk, IfErr, OnOk, OnErr, is_ok, if◌then◌else◌};
+ghost use Rattle.std.specs.Prelude.{Some, true, ◌≡◌, ◌≤◌, ◌+◌, ◌++◌, List, [], length, map, take, IfSome, IfNone, IfOk, IfErr, OnOk, OnErr, is_ok, if◌then◌else◌};
 ghost use Rattle.std.specs.Borrow.{Bor};
 ghost use Rattle.std.specs.Iterator.{IsFinite, Drains};
 ghost use Rattle.std.specs.List.Sorted.{IsPermutation, IsSorted, IsStrictlySortedBy};
+ghost use Rattle.std.specs.Map.Iter.{deref_pair};
 ghost use Rattle.std.specs.Vec.{vec_len};
 ghost use Rattle.ordered_lists.specs.Lists.{by_key, sets};
-ghost use Rattle.sorted_vector_map.specs.Grown.{extended, deref_both};
+ghost use Rattle.sorted_vector_map.specs.Cloned.{AreClones};
+ghost use Rattle.sorted_vector_map.specs.Grown.{extended};
 
 use crate::map::SortedVectorMap;
 use crate::merge::{keep_last, merge, sort_by_key};
@@ -34,8 +36,10 @@ impl<K: Ord, V> SortedVectorMap<K, V> {
         }
     }
 
-    /// Puts the pairs that `iter` gives in, as `extend_with_vec` does. Where memory is short the map stays, and the
-    /// pairs are gone.
+    /// Puts the pairs that `iter` gives in, as `extend_with_vec` does, and costs what it costs. The pairs are collected
+    /// first, in memory of their own.
+    ///
+    /// Where memory is short the map stays, and the pairs are gone.
     pub fn extend<I: IntoIterator<Item = (K, V)>>(&mut self, iter: I) -> Result<(), NoMemory>
     where
         K: Drop,
@@ -54,7 +58,9 @@ impl<K: Ord, V> SortedVectorMap<K, V> {
         Ok(())
     }
 
-    /// Puts copies of the pairs that `iter` gives in, as `extend_with_vec` does. Where memory is short the map stays.
+    /// Puts copies of the pairs that `iter` gives in, as `extend_with_vec` does, and costs what `extend` costs.
+    ///
+    /// Where memory is short the map stays.
     pub fn extend_copied<'a, I: IntoIterator<Item = (&'a K, &'a V)>>(
         &mut self,
         iter: I,
@@ -63,7 +69,7 @@ impl<K: Ord, V> SortedVectorMap<K, V> {
         K: Copy + 'a,
         V: Copy + 'a,
         requires { (it : I.IntoIter) → I.into_iter_gives iter it → I.IntoIter.can_next it × IsFinite (I.IntoIter.remaining it) }
-        ensures ok { OnOk result ((it : I.IntoIter) × (shown : List (Bor K × Bor V)) × I.into_iter_gives iter it × Drains I.IntoIter.next_gives it shown × (self.new.pairs ≡ extended K.cmp self.old.pairs (map deref_both shown))) }
+        ensures ok { OnOk result ((it : I.IntoIter) × (shown : List (Bor K × Bor V)) × I.into_iter_gives iter it × Drains I.IntoIter.next_gives it shown × (self.new.pairs ≡ extended K.cmp self.old.pairs (map deref_pair shown))) }
         ensures err { OnErr result (self.new.pairs ≡ self.old.pairs) }
     {
         let alloc = *self.items.allocator();
@@ -81,8 +87,9 @@ impl<K: Ord, V> SortedVectorMap<K, V> {
 
     /// Puts all pairs of `other` in, which is empty then. Of equal keys the pair of `other` stays.
     ///
-    /// Where memory is short both maps stay. It takes O(n + m) time, and only time for the pairs of `other` and for
-    /// those whose keys are above its least one.
+    /// Where memory is short both maps stay. It takes O(m) time for the m pairs of both maps whose keys aren't below the
+    /// least key of `other`, with one search for that key and amortised growth. Where this map is empty it takes O(1)
+    /// time and no memory.
     pub fn append(&mut self, other: &mut Self) -> Result<(), NoMemory>
     where
         K: Drop,
@@ -103,7 +110,8 @@ impl<K: Ord, V> SortedVectorMap<K, V> {
         Ok(())
     }
 
-    /// The map of the pairs that `iter` gives: `extend` of the empty map.
+    /// The map of the pairs that `iter` gives: `extend` of the empty map, in O(m log m) comparisons for m pairs. Where
+    /// memory is short it is refused, and the pairs are gone.
     pub fn try_from_iter<I: IntoIterator<Item = (K, V)>>(
         alloc: Global,
         iter: I,
@@ -119,7 +127,8 @@ impl<K: Ord, V> SortedVectorMap<K, V> {
         Ok(map)
     }
 
-    /// The map of the pairs of `bmap`, in O(n) time. Where memory is short they are gone.
+    /// The map of the pairs of `bmap`, in O(n) time and without comparisons. It takes memory for all pairs at once. Where
+    /// there is none it is refused, and the pairs are gone.
     pub fn try_from_btree_map(alloc: Global, bmap: BTreeMap<K, V>) -> Result<Self, NoMemory>
     where
         K: Drop,
@@ -130,14 +139,14 @@ impl<K: Ord, V> SortedVectorMap<K, V> {
         Ok(SortedVectorMap { items })
     }
 
-    /// An equal map with room for its pairs, in O(n) time. It takes memory, and is refused where there is none.
+    /// A map of clones of the pairs, in their order and with room for them, in O(n) time. The clone of a key is equal to
+    /// it. It takes memory, and is refused where there is none.
     pub fn try_clone(&self, alloc: Global) -> Result<Self, NoMemory>
     where
         K: Clone,
         V: Clone,
-        requires keys { (k copy : K) → K.is_clone k copy → copy ≡ k }
-        requires values { (v copy : V) → V.is_clone v copy → copy ≡ v }
-        ensures { IfOk result (λ m. m.pairs ≡ self.now.pairs) }
+        requires { (key copy : K) → K.is_clone key copy → K.eq copy key ≡ true }
+        ensures { IfOk result (λ m. AreClones K.is_clone V.is_clone self.now.pairs m.pairs) }
     {
         let mut items = Vec::with_capacity(alloc, self.items.len())?;
         items.extend_with_clones(&self.items)?;

@@ -1,6 +1,6 @@
 //! The values of a map for writing, in the order of their keys.
 ghost use types.Logic.{sem};
-ghost use Rattle.std.specs.Prelude.{◌≡◌, ◌^◌, ◌<◌, ◌&&◌, not, length, map};
+ghost use Rattle.std.specs.Prelude.{◌≡◌, ◌&&◌, not, length, map};
 ghost use Rattle.std.specs.Iterator.{at_most};
 ghost use Rattle.std.specs.List.{filter};
 ghost use Rattle.std.specs.List.Sorted.{IsStrictlySortedBy};
@@ -9,7 +9,7 @@ ghost use Rattle.std.specs.Range.Bound.{bound_map};
 ghost use Rattle.ordered_lists.specs.Lists.{by_key};
 ghost use Rattle.sorted_vector_map.specs.Bounds.{is_before, is_within, AreInOrder};
 ghost use Rattle.sorted_vector_map.specs.Hints.{IsExact};
-ghost use Rattle.sorted_vector_map.specs.Lending.{LendsFirstOf, LendsLastOf, LendsInOrder, LendsInReverse, deref_mut};
+ghost use Rattle.sorted_vector_map.specs.Lending.{LendsFirstOf, LendsLastOf, ComesForWriting, deref_mut};
 ghost use Rattle.sorted_vector_map.specs.Refilled.{lends_values, KeepsKeys, KeepsLength};
 ghost use Rattle.sorted_vector_map.specs.Slots.{pair_of, cell_of};
 
@@ -34,11 +34,8 @@ impl<K: Ord, V> SortedVectorMap<K, V> {
         ensures* writes_back { sem 𝓛 (lends_values K.row V.row K.Ord self.entry result.loan) }
         ensures keys { KeepsKeys self.old }
         ensures len { KeepsLength self.old }
-        ensures rest { result.rest ≡ self.old.pairs }
+        ensures pairs { ComesForWriting deref_pair_mut self.old.pairs result.rest }
         ensures ascending { IsStrictlySortedBy (by_key K.cmp) self.old.pairs }
-        ensures fits { length result.rest < 2 ^ 64 }
-        ensures runs { LendsInOrder (deref_pair_mut {K = K} {X = V}) }
-        ensures runs_back { LendsInReverse (deref_pair_mut {K = K} {X = V}) }
     {
         let (slots, lent) = self.lend();
         IterMut::new(slots, lent)
@@ -49,9 +46,7 @@ impl<K: Ord, V> SortedVectorMap<K, V> {
         ensures* writes_back { sem 𝓛 (lends_values K.row V.row K.Ord self.entry result.loan) }
         ensures keys { KeepsKeys self.old }
         ensures len { KeepsLength self.old }
-        ensures rest { result.rest ≡ map (λ p. p.1) self.old.pairs }
-        ensures runs { LendsInOrder (deref_mut {V = V}) }
-        ensures runs_back { LendsInReverse (deref_mut {V = V}) }
+        ensures values { ComesForWriting deref_mut (map (λ p. p.1) self.old.pairs) result.rest }
     {
         ValuesMut {
             pairs: self.iter_mut(),
@@ -66,7 +61,8 @@ impl<K: Ord, V> SortedVectorMap<K, V> {
         ensures* writes_back { sem 𝓛 (lends_values K.row V.row K.Ord self.entry result.loan) }
         ensures keys { KeepsKeys self.old }
         ensures len { KeepsLength self.old }
-        ensures rest { result.rest ≡ filter (λ p. not (is_before K.cmp (bound_map (λ k. k.now) low.entry) p.0) && is_within K.cmp (bound_map (λ k. k.now) high.entry) p.0) self.old.pairs }
+        ensures pairs { ComesForWriting deref_pair_mut (filter (λ p. not (is_before K.cmp (bound_map (λ k. k.now) low.entry) p.0) && is_within K.cmp (bound_map (λ k. k.now) high.entry) p.0) self.old.pairs) result.rest }
+        ensures ascending { IsStrictlySortedBy (by_key K.cmp) self.old.pairs }
     {
         let start = self.start_of(low);
         let end = self.end_of(high).max(start);
@@ -81,11 +77,11 @@ impl<'map, K: Ord, V> IntoIterator for &'map mut SortedVectorMap<K, V> {
 
     type IntoIter = IterMut<'map, K, V>;
 
-    ghost into_iter_gives = { λ m r. (r.rest ≡ m.now.pairs) × (length r.rest < 2 ^ 64) × LendsInOrder (deref_pair_mut {K = K} {X = V}) × LendsInReverse (deref_pair_mut {K = K} {X = V}) × IsStrictlySortedBy (by_key K.cmp) m.now.pairs };
+    ghost into_iter_gives = { λ map iter. ComesForWriting deref_pair_mut map.now.pairs iter.rest × IsStrictlySortedBy (by_key K.cmp) map.now.pairs };
 
     fn into_iter(self) -> IterMut<'map, K, V>
         ensures* writes_back { sem 𝓛 (lends_values K.row V.row K.Ord self.entry result.loan) }
-        ensures into_iter_gives { (result.rest ≡ self.old.pairs) × (length result.rest < 2 ^ 64) × LendsInOrder (deref_pair_mut {K = K} {X = V}) × LendsInReverse (deref_pair_mut {K = K} {X = V}) × IsStrictlySortedBy (by_key K.cmp) self.old.pairs }
+        ensures into_iter_gives { ComesForWriting deref_pair_mut self.old.pairs result.rest × IsStrictlySortedBy (by_key K.cmp) self.old.pairs }
         ensures keys { KeepsKeys self.old }
         ensures len { KeepsLength self.old }
     {

@@ -7,7 +7,7 @@ use std::ops::Bound;
 use std::test::Fail;
 
 // The even keys from 0 to 38, each with a hundred times itself.
-fn even_keys(alloc: Global) -> Result<SortedVectorMap<u32, u32>, Fail> {
+pub(crate) fn even_keys(alloc: Global) -> Result<SortedVectorMap<u32, u32>, Fail> {
     let mut map = SortedVectorMap::new(alloc);
     for half in 0u32..20 {
         map.insert(half * 2, half * 200)?;

@@ -40,8 +40,8 @@ impl<K: Ord, V> SortedVectorMap<K, V> {
         }
     }
 
-    /// The empty map with room for `capacity` pairs, in O(1) time. It takes memory, and is refused where there is
-    /// none.
+    /// The empty map with room for `capacity` pairs, in O(1) time. It takes memory, and is refused where there is none,
+    /// and where so many pairs are more than any memory can hold.
     pub fn with_capacity(alloc: Global, capacity: usize) -> Result<Self, NoMemory>
         ensures pairs { IfOk result (λ m. m.pairs ≡ []) }
         ensures spare { IfOk result (λ m. capacity ≤ m.spare) }

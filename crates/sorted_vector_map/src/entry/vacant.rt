@@ -14,7 +14,7 @@ impl<'a, K: Ord, V> VacantEntry<'a, K, V> {
         &self.key
     }
 
-    /// The given key, by value. The map stays.
+    /// The given key, by value, in O(1) time and without memory. The map stays.
     pub fn into_key(self) -> K
         ensures key { HasKey (Vacant self.entry) result }
         ensures map { self.exit.0.now ≡ (home (Vacant self.entry)).now }

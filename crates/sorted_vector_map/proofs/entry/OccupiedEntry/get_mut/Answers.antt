@@ -1,5 +1,6 @@
 use Rattle.std.proofs.Common.{refl}
-use Rattle.sorted_vector_map.specs.Entry.{keeps_within, same_place}
+use Rattle.sorted_vector_map.specs.Entry.{keeps_within}
+use Rattle.sorted_vector_map.proofs.EntryLemmas.{same_place}
 use Rattle.sorted_vector_map.proofs.entry.OccupiedEntry.get_mut.Goals as goal
 
 pub invariant_of-self-lent : goal.invariant_of-self-lent

@@ -2,7 +2,7 @@ use lib.ListN.{length, length-map}
 use Rattle.std.proofs.Common.{refl, sym, ap, map, arith, ◌∙◌}
 use Rattle.std.specs.Map.Iter.{deref_pair_mut}
 use Rattle.sorted_vector_map.specs.Slots.{pair_of}
-use Rattle.sorted_vector_map.proofs.LendingRuns.{lends_in_order, lends_in_reverse}
+use Rattle.sorted_vector_map.proofs.LendingRuns.{comes_for_writing}
 use Rattle.sorted_vector_map.proofs.RefillLemmas.{keys-with_values, length-with_values}
 use Rattle.sorted_vector_map.proofs.map.SortedVectorMap.iter_mut.Goals as goal
 
@@ -14,10 +14,9 @@ returns g c =
         writes_back = tt;
         keys = keys-with_values pairs;
         len = length-with_values pairs;
-        rest = c.new.ensures.rest ∙ ap (map pair_of) c.deref.ensures.value ∙ lent.pairs;
+        pairs =
+            comes_for_writing deref_pair_mut _ _ (c.new.ensures.rest ∙ ap (map pair_of) c.deref.ensures.value ∙ lent.pairs)
+            (omega (arith, ap length c.new.ensures.rest, length-map slots pair_of, c.deref.ensures.len, vec.ok.1, vec.small));
         ascending = lent.ascending;
-        fits = omega (arith, ap length c.new.ensures.rest, length-map slots pair_of, c.deref.ensures.len, vec.ok.1, vec.small);
-        runs = lends_in_order deref_pair_mut;
-        runs_back = lends_in_reverse deref_pair_mut;
       },
     )

@@ -1,6 +1,7 @@
+use lib.ListN.{length-map}
 use Rattle.std.proofs.Common.{refl, ap, map}
 use Rattle.sorted_vector_map.specs.Lending.{deref_mut}
-use Rattle.sorted_vector_map.proofs.LendingRuns.{lends_in_order, lends_in_reverse}
+use Rattle.sorted_vector_map.proofs.LendingRuns.{comes_for_writing}
 use Rattle.sorted_vector_map.proofs.map.SortedVectorMap.values_mut.Goals as goal
 
 pub returns : goal.returns
@@ -11,8 +12,6 @@ returns g c =
         writes_back = tt;
         keys = pairs.keys;
         len = pairs.len;
-        rest = ap (map (λ p. p.1)) pairs.rest;
-        runs = lends_in_order deref_mut;
-        runs_back = lends_in_reverse deref_mut;
+        values = comes_for_writing deref_mut _ _ (ap (map (λ p. p.1)) pairs.pairs.all) (rw (length-map c.iter_mut.result.rest (λ p. p.1)) pairs.pairs.countable);
       },
     )
