@@ -1,6 +1,8 @@
 //! Ranges with values that may overlap, kept in the order in which they came, and grouped into ranges that don't.
 #![tactic(auto)]
 
+#[cfg(test)]
+mod callers;
 mod grouped;
 mod grouping;
 mod multimap;

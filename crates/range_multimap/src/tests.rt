@@ -1,4 +1,5 @@
 //! What no contract shows: that the calls succeed where memory suffices, and that the contracts say what is meant.
+use crate::callers::push_pair;
 use crate::{Group, RangeMultiMap};
 use element_core::NoMemory;
 use range_map::{Range, RangeMap};
@@ -87,9 +88,9 @@ fn values_come_in_list_order_and_as_often(rt: HostRuntime) -> Result<(), Fail> {
 fn touching_equal_groups_join(rt: HostRuntime) -> Result<(), Fail> {
     let alloc = rt.alloc();
     let mut map = RangeMultiMap::new(alloc);
-    map.insert(Range::new(4, 6), 1)?;
-    map.insert(Range::new(1, 3), 1)?;
-    map.insert(Range::new(8, 9), 1)?;
+    push_pair(&mut map, Range::new(4, 6), 1)?;
+    push_pair(&mut map, Range::new(1, 3), 1)?;
+    push_pair(&mut map, Range::new(8, 9), 1)?;
     let groups = map.group(alloc)?;
     assert_eq!(rt;
         ends_of(alloc, &groups)?.as_slice(),
