@@ -5,10 +5,10 @@ use Rattle.std.specs.Ordering.{int_cmp, int_eq}
 use Rattle.std.specs.declared.cmp.Ordering.TheVariants.{Less, Equal, Greater}
 use Rattle.std.proofs.lemmas.Int.{ints, by_lt_z}
 use Rattle.std.proofs.lemmas.List.Sums.{sum_by-cons}
-use Rattle.number_line.specs.Ranges.{holds, IsCanonical}
+use Rattle.number_line.specs.Ranges.{holds, IsCanonical, xor}
 use Rattle.ordered_lists.specs.Lists.{has, find}
 use Rattle.number_line.proofs.RangeLemmas.{first_holds, rest_holds, below_start}
-use Rattle.cut_points.specs.Cuts.{IsAscending, cuts, from_cuts, parity, xor, changes}
+use Rattle.cut_points.specs.Cuts.{IsAscending, cuts, from_cuts, parity, changes}
 
 -- ---- tests
 

@@ -5,9 +5,10 @@ use Rattle.std.specs.List.{AllByRecursion}
 use Rattle.std.specs.declared.cmp.Ordering.{Ordering}
 use Rattle.std.specs.Ordering.{int_cmp}
 use Rattle.element_core.specs.Numbering.{Numbering, IsNumbering}
-use Rattle.number_line.specs.Ranges.{holds, IsCanonical}
+use Rattle.number_line.specs.Ranges.{holds, IsCanonical, xor}
 use Rattle.ordered_lists.specs.Lists.{symmetric_difference}
-use Rattle.cut_points.specs.Cuts.{numbers_of, IsAscending, cuts, from_cuts, xor}
+use Rattle.range_map.specs.Sweep.{numbers_of}
+use Rattle.cut_points.specs.Cuts.{IsAscending, cuts, from_cuts}
 use Rattle.cut_points.proofs.CutLemmas.{cuts_ascend, from_cuts_canonical}
 use Rattle.cut_points.proofs.SymmetricLemmas.{symmetric_ascends, symmetric_holds}
 use Rattle.cut_points.proofs.ValueLemmas.{symmetric_difference_at}

@@ -10,7 +10,8 @@ use Rattle.std.proofs.lemmas.List.Sums.{sum_by-cons, length-filter}
 use Rattle.element_core.specs.Numbering.{Numbering, IsNumbering}
 use Rattle.ordered_lists.specs.Lists.{set}
 use Rattle.ordered_lists.proofs.CutLemmas.{cut_front}
-use Rattle.cut_points.specs.Cuts.{numbers_of, IsAscending, cuts, parity}
+use Rattle.range_map.specs.Sweep.{numbers_of}
+use Rattle.cut_points.specs.Cuts.{IsAscending, cuts, parity}
 use Rattle.cut_points.proofs.CutLemmas.{cmp_less}
 
 -- ---- one cut more

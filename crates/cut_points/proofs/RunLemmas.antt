@@ -2,12 +2,12 @@ use Rattle.std.proofs.Common.{◌≡◌, ℕ, List, [], ◌∷◌, ap, arith, sy
 use Rattle.std.specs.Prelude.{ℤ, pos, ◌+ℤ◌, ◌-ℤ◌, ◌≤ℤ◌, ◌<ℤ◌, Bool, true, false}
 use Rattle.std.specs.Ordering.{int_cmp, int_eq}
 use Rattle.std.proofs.lemmas.Int.{ints, by_lt_z}
-use Rattle.number_line.specs.Ranges.{holds, IsCanonical}
+use Rattle.number_line.specs.Ranges.{holds, IsCanonical, xor}
 use Rattle.number_line.specs.Segments.{runs}
 use Rattle.ordered_lists.specs.Lists.{has}
 use Rattle.number_line.proofs.RangeLemmas.{below_start, same_list}
 use Rattle.number_line.proofs.SegmentLemmas.{distance, runs_canonical, runs_hold, canonical_is_runs}
-use Rattle.cut_points.specs.Cuts.{IsAscending, cuts, from_cuts, parity, xor, changes}
+use Rattle.cut_points.specs.Cuts.{IsAscending, cuts, from_cuts, parity, changes}
 use Rattle.cut_points.proofs.CutLemmas.{cuts_ascend, from_cuts_canonical, cuts_again, parity_holds, parity_below, parity_of_changes, has_is_change, eq_same, eq_less, eq_more, xor_false}
 
 -- the ranges of a list of cuts hold the numbers of odd parity

@@ -3,10 +3,10 @@ use Rattle.std.specs.Prelude.{ℤ, pos, ◌+ℤ◌, ◌-ℤ◌, ◌≤ℤ◌, �
 use Rattle.std.specs.List.{filter}
 use Rattle.std.specs.Ordering.{int_cmp, int_eq}
 use Rattle.std.proofs.lemmas.Int.{ints, by_lt_z}
-use Rattle.number_line.specs.Ranges.{holds, IsCanonical}
+use Rattle.number_line.specs.Ranges.{holds, IsCanonical, xor}
 use Rattle.ordered_lists.specs.Lists.{has, add, union, difference, symmetric_difference}
 use Rattle.number_line.proofs.SegmentLemmas.{distance}
-use Rattle.cut_points.specs.Cuts.{IsAscending, cuts, from_cuts, parity, xor, changes}
+use Rattle.cut_points.specs.Cuts.{IsAscending, cuts, from_cuts, parity, changes}
 use Rattle.cut_points.proofs.CutLemmas.{parity_of_changes, cuts_ascend, ascending_from, has_cons, cmp_less, cmp_same, cmp_more, eq_less, eq_same, eq_more, both_turn}
 use Rattle.cut_points.proofs.RunLemmas.{same_cuts, cuts_are_changes, from_cuts_hold}
 

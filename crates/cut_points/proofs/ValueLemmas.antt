@@ -8,7 +8,8 @@ use Rattle.std.specs.Ordering.{int_cmp, is_eq, match_ordering}
 use Rattle.std.proofs.lemmas.Int.{ints}
 use Rattle.element_core.specs.Numbering.{Numbering, IsNumbering}
 use Rattle.ordered_lists.specs.Lists.{find, has, add, union, difference, symmetric_difference}
-use Rattle.cut_points.specs.Cuts.{IsAscending, numbers_of}
+use Rattle.range_map.specs.Sweep.{numbers_of}
+use Rattle.cut_points.specs.Cuts.{IsAscending}
 
 less_of : (a b : ℤ) → int_cmp a b ≡ Less → a <ℤ b
 less_of a b e = grind (arith, ints)

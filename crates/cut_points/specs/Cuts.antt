@@ -1,12 +1,8 @@
 -- The cuts of a list of ranges: the numbers at which membership changes.
-use Rattle.std.specs.Prelude.{◌%◌, ◌==◌, ℤ, pos, ◌+ℤ◌, ◌-ℤ◌, ◌≤ℤ◌, Bool, true, false, not, int_le, int_lt, if◌then◌else◌, List, [], ◌∷◌, map, Option, Some, None}
+use Rattle.std.specs.Prelude.{◌%◌, ◌==◌, ℤ, pos, ◌+ℤ◌, ◌-ℤ◌, ◌≤ℤ◌, Bool, int_le, int_lt, if◌then◌else◌, List, [], ◌∷◌, Option, Some, None}
 use Rattle.std.specs.List.{count_by}
 use Rattle.std.specs.Ordering.{int_eq}
-use Rattle.element_core.specs.Numbering.{Numbering}
-
--- the numbers of the items
-abbrev pub numbers_of : {T : Type 0} → Numbering T → List T → List ℤ
-numbers_of numbers items = map numbers.number items
+use Rattle.number_line.specs.Ranges.{xor}
 
 -- the numbers lie from lo to hi, and each is less than the next
 abbrev pub IsAscending : ℤ → ℤ → List ℤ → Type 0
@@ -28,11 +24,6 @@ from_cuts greatest (c ∷ d ∷ rest) = (c, d -ℤ pos 1) ∷ from_cuts greatest
 -- whether the count of cuts at most x is odd
 abbrev pub parity : List ℤ → ℤ → Bool
 parity list x = count_by (λ c. int_le c x) list % 2 == 1
-
--- true where just one of the two is
-abbrev pub xor : Bool → Bool → Bool
-xor true b = not b
-xor false b = b
 
 -- whether f changes at x: from the number before, or from false before the first number
 abbrev pub changes : ℤ → (ℤ → Bool) → ℤ → Bool

@@ -1,9 +1,9 @@
 -- What holds of the definitions of this crate.
 use Rattle.std.specs.Prelude.{◌≡◌, ℤ, ◌≤ℤ◌, List}
 use Rattle.std.specs.Ordering.{int_cmp}
-use Rattle.number_line.specs.Ranges.{holds, IsCanonical}
+use Rattle.number_line.specs.Ranges.{holds, IsCanonical, xor}
 use Rattle.ordered_lists.specs.Lists.{symmetric_difference}
-use Rattle.cut_points.specs.Cuts.{IsAscending, cuts, from_cuts, parity, xor}
+use Rattle.cut_points.specs.Cuts.{IsAscending, cuts, from_cuts, parity}
 
 -- the cuts of a canonical list ascend, no other canonical list has them, and a number is held exactly where the count of cuts at
 -- most it is odd; and each ascending list is the cuts of a canonical list

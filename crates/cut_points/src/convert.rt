@@ -5,7 +5,8 @@ ghost use Rattle.std.specs.List.Sorted.{IsStrictlySortedBy};
 ghost use Rattle.number_line.specs.Ranges.{IsCanonical};
 ghost use Rattle.range_map.specs.Range.{in_numbers};
 ghost use Rattle.range_map.specs.Set.{all_in_numbers};
-ghost use Rattle.cut_points.specs.Cuts.{numbers_of, IsAscending, cuts as list_cuts, from_cuts, parity, with_begun};
+ghost use Rattle.range_map.specs.Sweep.{numbers_of};
+ghost use Rattle.cut_points.specs.Cuts.{IsAscending, cuts as list_cuts, from_cuts, parity, with_begun};
 
 use element_core::{Element, NoMemory, is_below};
 use range_map::{Range, RangeSet};

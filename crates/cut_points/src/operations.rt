@@ -3,9 +3,8 @@
 
 ghost use Rattle.std.specs.Prelude.{◌≡◌, ℤ, ◌≤ℤ◌, ◌&&◌, not, IfOk};
 ghost use Rattle.std.specs.List.Sorted.{IsStrictlySortedBy};
-ghost use Rattle.number_line.specs.Ranges.{holds, IsCanonical};
+ghost use Rattle.number_line.specs.Ranges.{holds, IsCanonical, xor};
 ghost use Rattle.ordered_lists.specs.Lists.{symmetric_difference};
-ghost use Rattle.cut_points.specs.Cuts.{xor};
 
 use crate::convert::{cut_list, set_of};
 use element_core::{Element, NoMemory};

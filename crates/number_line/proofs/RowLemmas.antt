@@ -1,17 +1,17 @@
 -- Canonical lists whose values are read through a function, the places of their ranges, and a list with a value at every number as the
 -- segments of its labelling.
-use Rattle.std.proofs.Common.{◌≡◌, ℕ, zero, suc, ◌+◌, List, [], ◌∷◌, map, slice_get, refl, arith, sym, ◌∙◌, ap, ◌++◌, reverse}
+use Rattle.std.proofs.Common.{◌≡◌, ℕ, suc, ◌+◌, List, [], ◌∷◌, map, refl, arith, sym, ◌∙◌, ap, ◌++◌, reverse}
 use Rattle.std.specs.Prelude.{ℤ, pos, ◌+ℤ◌, ◌≤ℤ◌, ◌<ℤ◌, Bool, true, false, if◌then◌else◌, Option, Some, None, nat_eq}
 use Rattle.std.specs.Option.{option_map, option_eq, option_or}
 use Rattle.std.proofs.lemmas.Bool.Decides.{Decides-eqb}
 use Rattle.std.proofs.lemmas.Int.{ints, by_lt_z}
 use Rattle.std.proofs.lemmas.List.{reverse-append}
 use Rattle.number_line.specs.Ranges.{lies_in}
-use Rattle.number_line.specs.Segments.{Segment, segments, IsCut}
+use Rattle.number_line.specs.Segments.{segments, IsCut}
 use Rattle.number_line.specs.Valued.{value_at, StopsBefore, IsCanonicalMap, HasValues}
 use Rattle.number_line.specs.Rows.{revalued, segment_of, place_at, value_of_place, with_places}
 use Rattle.number_line.proofs.SegmentLemmas.{cut_is_segments}
-use Rattle.number_line.proofs.ValuedLemmas.{inside, before, behind, lies_within, value_in_first, value_in_rest, none_below, none_before_first}
+use Rattle.number_line.proofs.ValuedLemmas.{inside, behind, lies_within, value_in_first, value_in_rest, none_below, none_before_first}
 
 module _ {V W : Type 0} (g : V → W) where
   -- the value at x of a list whose values are read through g

@@ -1,9 +1,14 @@
 -- Ranges of whole numbers, each by its first and its last number, and lists of them.
-use Rattle.std.specs.Prelude.{ℤ, pos, ◌+ℤ◌, ◌≤ℤ◌, Bool, false, ◌&&◌, ◌||◌, int_le, List, [], ◌∷◌}
+use Rattle.std.specs.Prelude.{ℤ, pos, ◌+ℤ◌, ◌≤ℤ◌, Bool, true, false, not, ◌&&◌, ◌||◌, int_le, List, [], ◌∷◌}
 
 -- x lies from the first number of the range to its last
 abbrev pub lies_in : ℤ × ℤ → ℤ → Bool
 lies_in r x = int_le r.0 x && int_le x r.1
+
+-- true where just one of the two is
+abbrev pub xor : Bool → Bool → Bool
+xor true b = not b
+xor false b = b
 
 -- some range of the list holds x
 abbrev pub holds : List (ℤ × ℤ) → ℤ → Bool

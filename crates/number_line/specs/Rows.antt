@@ -1,5 +1,5 @@
 -- A list of ranges with values, read through a function, as segments, and by the places of its ranges.
-use Rattle.std.specs.Prelude.{ℕ, suc, ℤ, Bool, if◌then◌else◌, List, [], ◌∷◌, map, slice_get, Option, Some, None}
+use Rattle.std.specs.Prelude.{ℕ, suc, ℤ, if◌then◌else◌, List, [], ◌∷◌, map, slice_get, Option, Some, None}
 use Rattle.std.specs.Option.{option_map}
 use Rattle.number_line.specs.Ranges.{lies_in}
 use Rattle.number_line.specs.Segments.{Segment}

@@ -3,8 +3,7 @@
 -- A line's words are folded over truth values for one number x, the last one first. Where a value or a name is missing a word leaves
 -- the values as they are, and no value gives false; in a text without a fault neither happens.
 use Rattle.std.specs.Prelude.{ℕ, ℤ, Bool, true, false, not, ◌&&◌, ◌||◌, if◌then◌else◌, List, [], ◌∷◌, ◌++◌, fold, map, bytes_eq, Option, Some, None}
-use Rattle.number_line.specs.Ranges.{lies_in}
-use Rattle.cut_points.specs.Cuts.{xor}
+use Rattle.number_line.specs.Ranges.{lies_in, xor}
 use Rattle.set_document.specs.Text.{lines, words, form, kind, Form, Kind, Number, Span, Empty, Full, Name, Not, Or, And, Minus, Xor, Comment, Named, Bad}
 
 -- named lines in order, each with its truth at every number

@@ -1,6 +1,7 @@
 use Rattle.std.proofs.Common.{◌≡◌, ◌++◌}
 use Rattle.std.specs.List.{AllByRecursion}
-use Rattle.cut_points.specs.Cuts.{numbers_of, cuts}
+use Rattle.range_map.specs.Sweep.{numbers_of}
+use Rattle.cut_points.specs.Cuts.{cuts}
 use Rattle.cut_points.proofs.convert.cuts.Given as goal
 
 abbrev pub invariant-loop-range : goal.invariant-loop-range

@@ -1,5 +1,6 @@
 use Rattle.std.proofs.Common.{◌≡◌, ap, ◌∙◌}
-use Rattle.cut_points.specs.Cuts.{numbers_of, cuts}
+use Rattle.range_map.specs.Sweep.{numbers_of}
+use Rattle.cut_points.specs.Cuts.{cuts}
 use Rattle.cut_points.proofs.CutLemmas.{cuts_again}
 use Rattle.cut_points.proofs.ValueLemmas.{sorted_ascends}
 use Rattle.cut_points.proofs.convert.from_cuts.Goals as goal

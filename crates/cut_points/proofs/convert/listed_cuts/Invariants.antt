@@ -1,6 +1,7 @@
 -- The cuts listed, and those of the ranges left, are all cuts.
 use Rattle.std.proofs.Common.{◌≡◌, ◌++◌}
-use Rattle.cut_points.specs.Cuts.{numbers_of, cuts}
+use Rattle.range_map.specs.Sweep.{numbers_of}
+use Rattle.cut_points.specs.Cuts.{cuts}
 use Rattle.cut_points.proofs.convert.listed_cuts.Given as goal
 
 abbrev pub invariant-loop-range : goal.invariant-loop-range

@@ -1,5 +1,5 @@
 use Rattle.range_map.specs.Range.{in_numbers}
-use Rattle.cut_points.specs.Cuts.{numbers_of}
+use Rattle.range_map.specs.Sweep.{numbers_of}
 use Rattle.cut_points.proofs.PlaceLemmas.{first_ascends}
 use Rattle.cut_points.proofs.convert.push_cuts.Goals as goal
 

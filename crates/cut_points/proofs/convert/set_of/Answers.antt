@@ -7,7 +7,8 @@ use Rattle.std.proofs.lemmas.Iterator.Adapters.{YieldsList-from_vec}
 use Rattle.number_line.specs.Ranges.{holds, IsCanonical}
 use Rattle.number_line.proofs.RangeLemmas.{same_list}
 use Rattle.range_map.specs.Set.{all_in_numbers}
-use Rattle.cut_points.specs.Cuts.{numbers_of, IsAscending, from_cuts, with_begun}
+use Rattle.range_map.specs.Sweep.{numbers_of}
+use Rattle.cut_points.specs.Cuts.{IsAscending, from_cuts, with_begun}
 use Rattle.cut_points.proofs.CutLemmas.{from_cuts_canonical, ascending_from}
 use Rattle.cut_points.proofs.convert.set_of.Goals as goal
 

@@ -1,7 +1,8 @@
 use Rattle.std.proofs.Common.{◌≡◌, ◌++◌, drop}
 use Rattle.std.specs.Prelude.{option_map}
 use Rattle.range_map.specs.Set.{all_in_numbers}
-use Rattle.cut_points.specs.Cuts.{numbers_of, IsAscending, from_cuts, with_begun}
+use Rattle.range_map.specs.Sweep.{numbers_of}
+use Rattle.cut_points.specs.Cuts.{IsAscending, from_cuts, with_begun}
 use Rattle.cut_points.proofs.convert.set_of.Given as goal
 
 abbrev pub invariant-loop-cut : goal.invariant-loop-cut

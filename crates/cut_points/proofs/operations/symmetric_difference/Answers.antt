@@ -1,6 +1,7 @@
 use Rattle.std.proofs.Common.{◌≡◌, ap, ap₂, ◌∙◌}
 use Rattle.ordered_lists.specs.Lists.{symmetric_difference}
-use Rattle.cut_points.specs.Cuts.{numbers_of, from_cuts}
+use Rattle.range_map.specs.Sweep.{numbers_of}
+use Rattle.cut_points.specs.Cuts.{from_cuts}
 use Rattle.cut_points.proofs.EitherLemmas.{either_ascend, either_holds}
 use Rattle.cut_points.proofs.operations.symmetric_difference.Goals as goal
 

@@ -1,8 +1,0 @@
-use Rattle.range_map.specs.Valued.{pairs_in_numbers}
-use Rattle.range_multimap.specs.Grouped.{grouped_at}
-use Rattle.range_multimap.proofs.GroupLemmas.{IsPicked}
-use Rattle.range_multimap.proofs.grouping.values_at.Given as goal
-
-abbrev pub invariant-loop-place : goal.invariant-loop-place
-invariant-loop-place g l =
-    IsPicked g.V.PartialEq.eq l.pairs (grouped_at (pairs_in_numbers g.T.Element.numbers l.pairs) (g.T.Element.numbers.number l.fn._key)) l.values.items l.place-iterator
