@@ -9,7 +9,6 @@ use Rattle.std.specs.BTreeMap.{is_at}
 use Rattle.std.specs.Cmp.{IsEquivalence}
 use Rattle.std.specs.Ordering.{nat_cmp, int_cmp, int_eq, is_lt}
 use Rattle.std.specs.declared.cmp.Ordering.TheVariants.{Less}
-use Rattle.std.proofs.lemmas.Bool.{eqb-true}
 use Rattle.std.proofs.lemmas.Int.{ints}
 use Rattle.std.proofs.lemmas.List.{map-append}
 use Rattle.std.proofs.lemmas.List.Sums.{sum_by-cons}
@@ -17,11 +16,11 @@ use Rattle.std.proofs.lemmas.List.Elements.{All-tail}
 use Rattle.std.proofs.lemmas.List.Sorted.{sum_by-IsPermutation, IsPermutation-map, All-permutation}
 use Rattle.std.specs.declared.cmp.Ordering.{Ordering}
 use Rattle.element_core.specs.Numbering.{Numbering, IsNumbering}
-use Rattle.number_line.specs.Ranges.{lies_in}
+use Rattle.number_line.specs.Ranges.{lies_in, xor}
 use Rattle.range_map.specs.declared.bounds.Bound.{Bound}
-use Rattle.range_map.specs.Range.{IsRange, in_numbers}
+use Rattle.range_map.specs.Range.{in_numbers}
 use Rattle.range_map.specs.Sweep.{DoNotFallFrom, is_cut, ChangesAtCuts}
-use Rattle.range_map.specs.Bounds.{xor, lies_at_from, lies_at, places_from, places_at, bound_in_numbers, bounds_in_numbers, is_passed, crossed, AreBounds, AreBoundsPushed, Active, has_place, AreActive}
+use Rattle.range_map.specs.Bounds.{lies_at_from, lies_at, places_from, places_at, bound_in_numbers, bounds_in_numbers, is_passed, crossed, AreBounds, AreBoundsPushed, has_place, AreActive}
 
 -- ---- the set of places
 

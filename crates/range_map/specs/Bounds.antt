@@ -1,14 +1,9 @@
 -- Several ranges, known by their places from 0 on: where each begins and ends, and which of them hold a number.
-use Rattle.std.specs.Prelude.{◌≡◌, ℕ, zero, suc, ◌==◌, ℤ, pos, ◌+ℤ◌, ◌≤ℤ◌, Bool, true, false, not, ◌&&◌, int_le, if◌then◌else◌, List, [], ◌∷◌, map}
+use Rattle.std.specs.Prelude.{◌≡◌, ℕ, suc, ◌==◌, ℤ, ◌≤ℤ◌, Bool, false, ◌&&◌, int_le, if◌then◌else◌, List, [], ◌∷◌, map}
 use Rattle.std.specs.List.{list_any}
 use Rattle.element_core.specs.Numbering.{Numbering}
-use Rattle.number_line.specs.Ranges.{lies_in}
+use Rattle.number_line.specs.Ranges.{lies_in, xor}
 use Rattle.range_map.specs.declared.bounds.Bound.{Bound}
-
--- true where just one of the two is
-abbrev pub xor : Bool → Bool → Bool
-xor true b = not b
-xor false b = b
 
 -- the ranges of pairs
 abbrev pub ranges_of : {V : Type 0} → List ((ℤ × ℤ) × V) → List (ℤ × ℤ)

@@ -1,12 +1,13 @@
 //! Where several ranges begin and end, and which of them hold a number, as it ascends.
-ghost use Rattle.std.specs.Prelude.{◌≡◌, ℕ, ◌==◌, ℤ, ◌≤ℤ◌, List, [], ◌∷◌, ◌++◌, map, IfOk, IfSome, IfNone, OnOk};
+ghost use Rattle.std.specs.Prelude.{◌≡◌, ℕ, ◌==◌, ℤ, ◌≤ℤ◌, List, [], ◌∷◌, ◌++◌, map, IfOk, IfSome, IfNone, OnOk, OnErr};
 ghost use Rattle.std.specs.List.{All};
 ghost use Rattle.std.specs.List.Sorted.{IsStrictlySortedBy};
 ghost use Rattle.std.specs.Ordering.{nat_cmp};
 ghost use Rattle.range_map.specs.Range.{in_numbers};
 ghost use Rattle.range_map.specs.Valued.{pairs_in_numbers};
 ghost use Rattle.range_map.specs.Sweep.{DoNotFallFrom, numbers_of};
-ghost use Rattle.range_map.specs.Bounds.{xor, ranges_of, places_at, bounds_in_numbers, AreBounds, AreBoundsPushed, has_place, AreActive};
+ghost use Rattle.number_line.specs.Ranges.{xor};
+ghost use Rattle.range_map.specs.Bounds.{ranges_of, places_at, bounds_in_numbers, AreBounds, AreBoundsPushed, has_place, AreActive};
 
 use crate::range::Range;
 use element_core::{Element, NoMemory, compare, is_below};
@@ -124,6 +125,7 @@ impl<'a, T: Element> Model for ActivePlaces<'a, T> {
 fn cross(places: &mut BTreeSet<usize>, place: usize) -> Result<(), NoMemory>
     ensures ascending { IsStrictlySortedBy nat_cmp places.new.keys }
     ensures crossed { OnOk result ((other : ℕ) → has_place places.new.keys other ≡ xor (place == other) (has_place places.old.keys other)) }
+    ensures unchanged { OnErr result (places.new.keys ≡ places.old.keys) }
 {
     if places.remove(&place) {
         return Ok(());
@@ -134,9 +136,9 @@ fn cross(places: &mut BTreeSet<usize>, place: usize) -> Result<(), NoMemory>
 
 impl<'a, T: Element> ActivePlaces<'a, T> {
     /// Goes on to `x`, which must not be below what was entered before. Takes O(log n) time for each bound that is
-    /// passed, of n pairs. After `NoMemory` some of the bounds were passed.
+    /// passed, of n pairs. After `NoMemory` the same value, or a greater one, may be entered still.
     pub fn enter(&mut self, x: T) -> Result<(), NoMemory>
-        ensures goes_on { OnOk result ((ranges : List (ℤ × ℤ)) (n : ℤ) → AreActive T.numbers.greatest ranges (T.numbers.number x) self.old → T.numbers.number x ≤ℤ n → AreActive T.numbers.greatest ranges n self.new) }
+        ensures goes_on { (ranges : List (ℤ × ℤ)) (n : ℤ) → AreActive T.numbers.greatest ranges (T.numbers.number x) self.old → T.numbers.number x ≤ℤ n → AreActive T.numbers.greatest ranges n self.new }
         ensures entered { OnOk result ((ranges : List (ℤ × ℤ)) → AreActive T.numbers.greatest ranges (T.numbers.number x) self.old → self.new.places ≡ places_at ranges (T.numbers.number x)) }
     {
         x.in_type();

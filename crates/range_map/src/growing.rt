@@ -6,27 +6,14 @@ ghost use Rattle.range_map.specs.Valued.{pairs_in_numbers, IsMap};
 ghost use Rattle.range_map.specs.Sweep.{EndBelow, IsLabelled};
 
 use crate::range::Range;
-use element_core::{Element, NoMemory, is_below};
-
-/// Whether `next`, which begins behind `last`, begins right behind it.
-fn touches<T: Element>(last: &Range<T>, next: &Range<T>) -> bool
-    requires { T.numbers.number last.now.1 <ℤ T.numbers.number next.now.0 }
-    ensures { MatchBool result (T.numbers.number next.now.0 ≡ T.numbers.number last.now.1 +ℤ pos 1) ((T.numbers.number last.now.1 +ℤ pos 1) <ℤ T.numbers.number next.now.0) }
-{
-    let start = next.start();
-    start.in_type();
-    match last.end().successor() {
-        Some(after) => !is_below(after, start),
-        None => true,
-    }
-}
+use element_core::{Element, NoMemory};
 
 /// Whether `next`, which begins behind the range of `last`, goes on where that ends, with the same value.
 fn goes_on<T: Element, V: Eq>(last: &(Range<T>, V), next: &Range<T>, value: &V) -> bool
     requires { T.numbers.number last.now.0.1 <ℤ T.numbers.number next.now.0 }
     ensures { MatchBool result ((T.numbers.number next.now.0 ≡ T.numbers.number last.now.0.1 +ℤ pos 1) × (V.eq last.now.1 value.now ≡ true)) (T.numbers.number next.now.0 ≡ T.numbers.number last.now.0.1 +ℤ pos 1 → V.eq last.now.1 value.now ≡ false) }
 {
-    if !touches(&last.0, next) {
+    if !last.0.touches(next) {
         return false;
     }
     last.1 == *value

@@ -4,7 +4,7 @@ ghost use Rattle.std.specs.Int.{int_max};
 ghost use Rattle.std.specs.Iterator.{IsFinite, Drains};
 ghost use Rattle.std.specs.List.Sorted.{IsPermutation};
 ghost use Rattle.number_line.specs.Valued.{IsCanonicalMap};
-ghost use Rattle.number_line.specs.Kept.{overlaps, touches, clashes, joins, range_cmp, placed, kept_and_discarded, IsDivided};
+ghost use Rattle.number_line.specs.Kept.{clashes, joins, range_cmp, placed, kept_and_discarded, IsDivided};
 ghost use Rattle.range_map.specs.Range.{IsRange, in_numbers};
 ghost use Rattle.range_map.specs.Valued.{pair_in_numbers, pairs_in_numbers, AreValuedRanges, IsMap};
 ghost use Rattle.range_map.specs.MapError.{IfOverlap};
@@ -24,37 +24,18 @@ fn compare_ranges<T: Element>(a: &Range<T>, b: &Range<T>) -> Ordering
     compare(a.start(), b.start()).then(compare(a.end(), b.end()))
 }
 
-/// Whether some value lies in both ranges.
-fn overlap<T: Element>(a: &Range<T>, b: &Range<T>) -> bool
-    ensures { result ≡ overlaps (in_numbers T.numbers a.now) (in_numbers T.numbers b.now) }
-{
-    !is_below(b.end(), a.start()) && !is_below(a.end(), b.start())
-}
-
-/// Whether `next` begins right behind `range`.
-fn touch<T: Element>(range: &Range<T>, next: &Range<T>) -> bool
-    ensures { result ≡ touches (in_numbers T.numbers range.now) (in_numbers T.numbers next.now) }
-{
-    let start = next.start();
-    start.in_type();
-    match range.end().successor() {
-        Some(after) => !is_below(after, start) && !is_below(start, after),
-        None => false,
-    }
-}
-
 /// Whether `next` overlaps `last` with another value.
 fn clash<T: Element, V: Eq>(last: &(Range<T>, V), next: &(Range<T>, V)) -> bool
     ensures { result ≡ clashes V.eq (pair_in_numbers T.numbers last.now) (pair_in_numbers T.numbers next.now) }
 {
-    overlap(&last.0, &next.0) && last.1 != next.1
+    last.0.intersects(&next.0) && last.1 != next.1
 }
 
 /// Whether `next` overlaps or touches `last` with an equal value.
 fn join<T: Element, V: Eq>(last: &(Range<T>, V), next: &(Range<T>, V)) -> bool
     ensures { result ≡ joins V.eq (pair_in_numbers T.numbers last.now) (pair_in_numbers T.numbers next.now) }
 {
-    (overlap(&last.0, &next.0) || touch(&last.0, &next.0)) && last.1 == next.1
+    (last.0.intersects(&next.0) || last.0.touches(&next.0)) && last.1 == next.1
 }
 
 /// The range as far as the larger of its own end and that of `next`.

@@ -3,6 +3,7 @@ ghost use Rattle.std.specs.Prelude.{◌≡◌, ℤ, ◌≤ℤ◌, ◌&&◌, IfSo
 ghost use Rattle.std.specs.Bool.{OnTrue, OnFalse};
 ghost use Rattle.std.specs.Int.{int_min, int_max};
 ghost use Rattle.number_line.specs.Ranges.{lies_in};
+ghost use Rattle.number_line.specs.Kept.{overlaps, touches};
 ghost use Rattle.range_map.specs.Range.{IsRange, in_numbers, place_beside};
 
 use element_core::{Element, is_below};
@@ -98,8 +99,21 @@ impl<T: Element> Range<T> {
     pub fn intersects(&self, other: &Self) -> bool
         ensures shared { OnTrue result ((x : ℤ) × ((lies_in (in_numbers T.numbers self.now) x && lies_in (in_numbers T.numbers other.now) x) ≡ true)) }
         ensures apart { OnFalse result ((x : ℤ) → (lies_in (in_numbers T.numbers self.now) x && lies_in (in_numbers T.numbers other.now) x) ≡ false) }
+        ensures ends { result ≡ overlaps (in_numbers T.numbers self.now) (in_numbers T.numbers other.now) }
     {
         !is_below(other.end, self.start) && !is_below(self.end, other.start)
+    }
+
+    /// Whether `next` begins with the value behind this range.
+    pub(crate) fn touches(&self, next: &Self) -> bool
+        ensures { result ≡ touches (in_numbers T.numbers self.now) (in_numbers T.numbers next.now) }
+    {
+        let start = next.start();
+        start.in_type();
+        match self.end().successor() {
+            Some(after) => !is_below(after, start) && !is_below(start, after),
+            None => false,
+        }
     }
 
     /// The range of the values that lie in both, or `None` where no value does.

@@ -149,14 +149,12 @@ impl<T: Element> RangeSet<T> {
     {
         let mut ranges = Vec::with_capacity(alloc, self.ranges.len().saturating_add(1))?;
         let mut start = T::min_value();
-        let mut rest = self.ranges.as_slice();
-        while let Some((range, behind)) = rest.split_first() {
+        for range in &self.ranges {
             push_gap(&mut ranges, start, range)?;
             match range.end().successor() {
                 Some(next) => start = next,
                 None => return Ok(RangeSet { ranges }),
             }
-            rest = behind;
         }
         start.in_type();
         ranges.push(Range::new(start, T::max_value()))?;

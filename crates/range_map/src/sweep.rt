@@ -125,11 +125,9 @@ pub fn sweep<T: Element, V: Eq + Drop, L: Labelling<T, V>>(
 {
     let mut list = Vec::new(alloc);
     let mut start = T::min_value();
-    let mut rest = cuts;
-    while let Some((cut, behind)) = rest.split_first() {
+    for cut in cuts {
         push_up_to(alloc, &mut list, labels, start, *cut)?;
         start = *cut;
-        rest = behind;
     }
     push_cell(alloc, &mut list, labels, start, T::max_value())?;
     Ok(list)

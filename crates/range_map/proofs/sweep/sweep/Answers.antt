@@ -1,4 +1,5 @@
-use Rattle.std.proofs.Common.{arith, ◌∷◌, sym, ◌∙◌}
+use Rattle.std.proofs.lemmas.Grind.{common_steps}
+use Rattle.std.proofs.Common.{◌≡◌, ◌+◌, ◌∷◌, arith, drop, sym, ◌∙◌}
 use Rattle.std.proofs.lemmas.Int.{ints}
 use Rattle.std.specs.Option.{option_eq}
 use Rattle.range_map.specs.Sweep.{DoNotFallFrom, numbers_of, ChangesAtCuts}
@@ -7,19 +8,23 @@ use Rattle.range_map.proofs.sweep.sweep.Goals as goal
 
 pub push_up_to-requires-clause-stays : goal.push_up_to-requires-clause-stays
 push_up_to-requires-clause-stays g c =
-    stays_before_cut g.T.Element.numbers (option_eq g.V.PartialEq.eq) (g.L.Labelling.label c.loop-cut.labels) _ c.in-Some.cut.now c.in-Some.behind.now
-    (rw c.in-Some.ensures.cases.0 at c.loop-cut.invariant.in_order) (rw c.in-Some.ensures.cases.0 at c.loop-cut.invariant.changes)
+    let i = c.loop-cut.cut-index in
+    let next : drop i c.args.cuts.now ≡ c.cut-item.result ∷ drop (i + 1) c.args.cuts.now = grind (arith, common_steps) in
+    stays_before_cut g.T.Element.numbers (option_eq g.V.PartialEq.eq) (g.L.Labelling.label c.loop-cut.labels) _ c.cut-item.result (drop (i + 1) c.args.cuts.now)
+    (rw next at c.loop-cut.invariant.in_order) (rw next at c.loop-cut.invariant.changes)
 
 pub loop-cut-preserved : goal.loop-cut-preserved
 loop-cut-preserved g c =
     let numbers = g.T.Element.numbers in
-    let at = c.in-Some.cut.now in
-    let left = c.in-Some.behind.now in
+    let i = c.loop-cut.cut-index in
+    let at = c.cut-item.result in
+    let left = drop (i + 1) c.args.cuts.now in
+    let next : drop i c.args.cuts.now ≡ at ∷ left = grind (arith, common_steps) in
     let before = g.L.Labelling.label c.loop-cut.labels in
     let after = g.L.Labelling.label c.push_up_to.new.labels in
-    let d : DoNotFallFrom numbers (numbers.number c.loop-cut.start) (at ∷ left) = rw c.in-Some.ensures.cases.0 at c.loop-cut.invariant.in_order in
+    let d : DoNotFallFrom numbers (numbers.number c.loop-cut.start) (at ∷ left) = rw next at c.loop-cut.invariant.in_order in
     let changes : ChangesAtCuts (option_eq g.V.PartialEq.eq) before (numbers.number at) numbers.greatest (numbers_of numbers left) =
-    changes_from_cut numbers (option_eq g.V.PartialEq.eq) before _ at left d (rw c.in-Some.ensures.cases.0 at c.loop-cut.invariant.changes) in
+    changes_from_cut numbers (option_eq g.V.PartialEq.eq) before _ at left d (rw next at c.loop-cut.invariant.changes) in
     record {
       map = c.in_ok-push_up_to.ensures.map;
       is_value = d.0;

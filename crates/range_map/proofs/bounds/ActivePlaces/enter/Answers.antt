@@ -1,4 +1,4 @@
-use Rattle.std.proofs.Common.{◌≡◌, ◌∷◌, arith, ap, refl}
+use Rattle.std.proofs.Common.{◌∷◌, arith, ap, refl}
 use Rattle.std.specs.Prelude.{map}
 use Rattle.std.proofs.lemmas.Int.{ints}
 use Rattle.std.proofs.lemmas.List.{nil_from_length}
@@ -19,6 +19,11 @@ loop-bound-preserved g c =
       active = λ ranges was. active_step _ ranges _ _ _ (bound_in_numbers numbers bound) _ (bounds_in_numbers numbers behind)
           (ap (bounds_in_numbers numbers) c.in-Some.ensures.cases.0) c.if-is_below.ensures c.in_ok-cross.ensures.crossed (c.loop-bound.invariant.active ranges was);
     }
+
+pub returns-in_err-cross-clause-goes_on : goal.returns-in_err-cross-clause-goes_on
+returns-in_err-cross-clause-goes_on g c =
+    λ ranges n was low place x above high.
+    rw c.in_err-cross.ensures.unchanged (c.loop-bound.invariant.active ranges was place x (omega (arith, ints)) high)
 
 pub returns-then-is_below-clause-entered : goal.returns-then-is_below-clause-entered
 returns-then-is_below-clause-entered g c =

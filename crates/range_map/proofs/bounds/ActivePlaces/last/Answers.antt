@@ -1,4 +1,3 @@
-use Rattle.std.specs.Prelude.{IfSome}
 use Rattle.range_map.proofs.BoundLemmas.{copied_last}
 use Rattle.range_map.proofs.bounds.ActivePlaces.last.Goals as goal
 

@@ -1,7 +1,8 @@
 use Rattle.std.proofs.Common.{◌≡◌, drop}
 use Rattle.std.specs.Prelude.{ℕ, ℤ, ◌≤ℤ◌}
 use Rattle.range_map.specs.Valued.{pairs_in_numbers}
-use Rattle.range_map.specs.Bounds.{xor, ranges_of, lies_at, lies_at_from, crossed, bounds_in_numbers}
+use Rattle.number_line.specs.Ranges.{xor}
+use Rattle.range_map.specs.Bounds.{ranges_of, lies_at, lies_at_from, crossed, bounds_in_numbers}
 use Rattle.range_map.proofs.BoundLemmas.{AreValues}
 use Rattle.range_map.proofs.bounds.Bounds.new.Given as goal
 

@@ -1,4 +1,4 @@
-use Rattle.std.proofs.Common.{length}
+use Rattle.std.proofs.Common.{drop}
 use Rattle.range_map.specs.Set.{all_in_numbers, AreRanges}
 use Rattle.range_map.proofs.GapLemmas.{IsComplement}
 use Rattle.range_map.proofs.set.RangeSet.negated.Given as goal
@@ -7,9 +7,6 @@ abbrev pub invariant-loop-range : goal.invariant-loop-range
 invariant-loop-range g l = record {
   are_ranges : AreRanges g.T.Element.numbers l.ranges.items;
   complement : IsComplement g.T.Element.numbers.least g.T.Element.numbers.greatest
-      (all_in_numbers g.T.Element.numbers l.initial.rest) (all_in_numbers g.T.Element.numbers l.ranges.items)
-      (all_in_numbers g.T.Element.numbers l.rest) (g.T.Element.numbers.number l.start);
+      (all_in_numbers g.T.Element.numbers l.range-items) (all_in_numbers g.T.Element.numbers l.ranges.items)
+      (all_in_numbers g.T.Element.numbers (drop l.range-index l.range-items)) (g.T.Element.numbers.number l.start);
 }
-
-abbrev pub decreases-loop-range : goal.decreases-loop-range
-decreases-loop-range g l = length l.rest
