@@ -1,13 +1,10 @@
 -- Lists that are the same item by item, made one item after another.
-use Rattle.std.proofs.Common.{◌≡◌, ℕ, ◌+◌, ◌<◌, List, [], ◌∷◌, ◌++◌, refl, ap, sym, ◌∙◌, append_assoc, append-nil}
-use Rattle.std.specs.Prelude.{ℤ, Bool, true, false, ◌&&◌, map}
+use Rattle.std.proofs.Common.{◌≡◌, List, [], ◌∷◌, ◌++◌, refl, ap, ◌∙◌, append_assoc, append-nil}
+use Rattle.std.specs.Prelude.{ℤ, Bool, true}
 use Rattle.std.specs.Cmp.Lexicographic.{pointwise}
 use Rattle.std.specs.Ordering.{int_eq}
-use Rattle.std.proofs.lemmas.List.{map-append}
 use Rattle.std.proofs.lemmas.Bool.Decides.{Decides-int_eq}
-use Rattle.number_line.specs.Valued.{same_valued, same_list}
-use Rattle.element_core.specs.Numbering.{Numbering}
-use Rattle.range_map.specs.Valued.{pair_in_numbers, pairs_in_numbers}
+use Rattle.number_line.specs.Valued.{same_valued}
 
 module _ {A B : Type 0} (same : A → B → Bool) where
   -- `made`, followed by whatever is the same as what is left, is the same as all

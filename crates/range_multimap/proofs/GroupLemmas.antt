@@ -1,7 +1,7 @@
 -- The values of the pairs whose ranges hold a number, by the places of those pairs.
-use Rattle.std.proofs.Common.{◌≡◌, ℕ, zero, suc, ◌+◌, ◌<◌, List, [], ◌∷◌, ◌++◌, length, refl, ap, arith, sym, ◌∙◌}
-use Rattle.std.specs.Prelude.{ℤ, ◌≤ℤ◌, Bool, true, false, ◌&&◌, if◌then◌else◌, Option, Some, None, map}
-use Rattle.std.specs.List.{AllByRecursion, slice_get}
+use Rattle.std.proofs.Common.{◌≡◌, ℕ, suc, ◌<◌, List, [], ◌∷◌, ◌++◌, length, refl, ap, sym, ◌∙◌}
+use Rattle.std.specs.Prelude.{ℤ, Bool, true, false, if◌then◌else◌, Option, Some, None, map}
+use Rattle.std.specs.List.{slice_get}
 use Rattle.std.specs.Option.{option_eq, option_map}
 use Rattle.std.specs.Cmp.Lexicographic.{pointwise}
 use Rattle.std.specs.Iterator.{Drains}
@@ -12,11 +12,11 @@ use Rattle.std.proofs.lemmas.Iterator.Adapters.{YieldsList-from_vec}
 use Rattle.std.proofs.lemmas.Option.{slice_get_within}
 use Rattle.element_core.specs.Numbering.{Numbering}
 use Rattle.number_line.specs.Ranges.{lies_in}
-use Rattle.number_line.specs.Valued.{value_at, IsCanonicalMap, HasValues}
-use Rattle.number_line.specs.Kept.{IsDivided, Split, placed, kept_and_discarded}
+use Rattle.number_line.specs.Valued.{IsCanonicalMap}
+use Rattle.number_line.specs.Kept.{IsDivided}
 use Rattle.number_line.proofs.KeptLemmas.{canonical_is_kept}
 use Rattle.range_map.specs.Range.{in_numbers}
-use Rattle.range_map.specs.Valued.{pair_in_numbers, pairs_in_numbers}
+use Rattle.range_map.specs.Valued.{pairs_in_numbers}
 use Rattle.range_map.specs.Bounds.{ranges_of, places_from, places_at}
 use Rattle.range_map.proofs.BoundLemmas.{HoldAlike}
 use Rattle.range_multimap.specs.Grouped.{grouped_at, group_of}

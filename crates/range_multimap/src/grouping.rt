@@ -3,7 +3,7 @@ ghost use Rattle.std.specs.Prelude.{◌≡◌, ℤ, IfOk, true};
 ghost use Rattle.std.specs.Cmp.Lexicographic.{pointwise};
 ghost use Rattle.number_line.specs.Valued.{IsCanonicalMap, HasValues};
 ghost use Rattle.range_map.specs.Valued.{pairs_in_numbers, AreValuedRanges};
-ghost use Rattle.range_map.specs.Bounds.{AreActive, ranges_of, places_at};
+ghost use Rattle.range_map.specs.Bounds.{AreActive, ranges_of};
 ghost use Rattle.range_multimap.specs.Grouped.{grouped_at, group_of};
 
 use crate::grouped::Group;
@@ -11,25 +11,6 @@ use element_core::{Element, NoMemory};
 use range_map::sweep::{ActivePlaces, Bounds, Labelling, clone_at, sweep};
 use range_map::{Range, RangeMap, TryFromIterError};
 use std::alloc::Global;
-use std::collections::BTreeSet;
-
-/// Clones of the values of the pairs at `places`, which are those of the ranges that hold the value `_key`.
-fn values_at<T: Element, V: Eq + Clone + Drop>(
-    alloc: Global,
-    pairs: &[(Range<T>, V)],
-    places: &BTreeSet<usize>,
-    _key: T,
-) -> Result<Vec<V>, NoMemory>
-    requires clones { (a b : V) → V.is_clone a b → V.eq b a ≡ true }
-    requires held { places.now.keys ≡ places_at (ranges_of (pairs_in_numbers T.numbers pairs.now)) (T.numbers.number _key) }
-    ensures { IfOk result (λ values. pointwise V.eq values.items (grouped_at (pairs_in_numbers T.numbers pairs.now) (T.numbers.number _key)) ≡ true) }
-{
-    let mut values = Vec::with_capacity(alloc, places.len())?;
-    for place in places {
-        values.push(clone_at(pairs, *place)?)?;
-    }
-    Ok(values)
-}
 
 /// The labelling of each key by the group of the values of the ranges that hold it.
 #[derive(Drop)]
@@ -46,7 +27,11 @@ impl<T: Element, V: Eq + Clone + Drop> Labelling<T, Group<V>> for Grouping<'_, '
 
     fn enter(&mut self, alloc: Global, x: T) -> Result<Option<Group<V>>, NoMemory> {
         self.active.enter(x)?;
-        let values = values_at(alloc, self.pairs, self.active.places(), x)?;
+        let places = self.active.places();
+        let mut values = Vec::with_capacity(alloc, places.len())?;
+        for place in places {
+            values.push(clone_at(self.pairs, *place)?)?;
+        }
         if values.is_empty() {
             return Ok(None);
         }

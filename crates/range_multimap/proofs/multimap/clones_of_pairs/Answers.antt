@@ -2,7 +2,7 @@ use Rattle.std.proofs.Common.{◌≡◌, [], ◌∷◌, ◌+◌, drop, arith, ap
 use Rattle.std.proofs.lemmas.Grind.{common_steps}
 use Rattle.number_line.specs.Valued.{same_valued}
 use Rattle.range_map.specs.Range.{in_numbers}
-use Rattle.range_map.specs.Valued.{pairs_in_numbers, pair_in_numbers}
+use Rattle.range_map.specs.Valued.{pairs_in_numbers}
 use Rattle.range_map.proofs.DividedLemmas.{valued-push}
 use Rattle.range_map.proofs.GrowthLemmas.{in_numbers-push}
 use Rattle.range_multimap.proofs.ClonedLemmas.{made_start, made_step, made_end, valued_same}
