@@ -1,6 +1,5 @@
 //! What a caller learns of maps: whether a key has a value, and that a filled map has one at every key.
-ghost use Rattle.std.specs.Prelude.{◌≡◌, ℤ, ◌≤ℤ◌, is_some, IfOk, true};
-ghost use Rattle.std.specs.Option.{option_eq};
+ghost use Rattle.std.specs.Prelude.{◌≡◌, is_some, IfOk, IsTrue};
 ghost use Rattle.number_line.specs.Valued.{value_at};
 
 use crate::RangeMapBlaze;
@@ -14,9 +13,14 @@ pub(crate) fn has_value(map: &RangeMapBlaze<i64, u8>, key: i64) -> bool
     map.get(key).is_some()
 }
 
-pub(crate) fn filled(
+/// Whether the map has a value at `key` once its gaps are filled: it has one at every key.
+pub(crate) fn has_value_when_filled(
     alloc: Global,
     map: &RangeMapBlaze<i64, u8>,
-) -> Result<RangeMapBlaze<i64, Option<u8>>, NoMemory> {
-    map.fill_gaps(alloc)
+    key: i64,
+) -> Result<bool, NoMemory>
+    ensures { IfOk result IsTrue }
+{
+    let filled = map.fill_gaps(alloc)?;
+    Ok(filled.get(key).is_some())
 }

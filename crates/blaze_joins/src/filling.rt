@@ -47,15 +47,13 @@ impl<T: Element, V: Eq + Clone + Drop> RangeMapBlaze<T, V> {
             self.pairs.len().saturating_mul(2).saturating_add(1),
         )?;
         let mut start = T::min_value();
-        let mut rest = self.pairs.as_slice();
-        while let Some((pair, behind)) = rest.split_first() {
+        for pair in &self.pairs {
             push_gap(&mut filled, start, &pair.0)?;
             push_value(&mut filled, pair.0, Some(pair.1.clone()?))?;
             match pair.0.end().successor() {
                 Some(next) => start = next,
                 None => return Ok(RangeMapBlaze { pairs: filled }),
             }
-            rest = behind;
         }
         start.in_type();
         push_value(&mut filled, Range::new(start, T::max_value()), None)?;

@@ -99,8 +99,7 @@ impl<T: Element, V: Eq> RangeMapBlaze<T, V> {
         ensures some_without { OnFalse result ((x : ℤ) × (T.numbers.least ≤ℤ x) × (x ≤ℤ T.numbers.greatest) × (value_at self.now x ≡ None)) }
     {
         let mut start = T::min_value();
-        let mut rest = self.pairs.as_slice();
-        while let Some((pair, behind)) = rest.split_first() {
+        for pair in &self.pairs {
             if is_below(start, pair.0.start()) {
                 return false;
             }
@@ -108,7 +107,6 @@ impl<T: Element, V: Eq> RangeMapBlaze<T, V> {
                 Some(next) => start = next,
                 None => return true,
             }
-            rest = behind;
         }
         false
     }

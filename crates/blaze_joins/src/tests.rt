@@ -1,6 +1,6 @@
 //! What no contract shows: that the calls succeed where memory suffices, and that the contracts say what is meant.
 use crate::RangeMapBlaze;
-use crate::callers::{filled, has_value};
+use crate::callers::{has_value, has_value_when_filled};
 use element_core::{Element, NoMemory};
 use range_map::Range;
 use std::alloc::Global;
@@ -131,10 +131,8 @@ fn a_caller_asks_for_keys(rt: HostRuntime) -> Result<(), Fail> {
     list.push((Range::new(i64::MIN, -1), 3))?;
     let map = RangeMapBlaze::from_pairs(alloc, list)?;
     assert!(rt; has_value(&map, i64::MIN) && has_value(&map, -1) && !has_value(&map, 0));
-    let full = filled(alloc, &map)?;
-    assert_eq!(rt;
-        listed(alloc, &full)?.as_slice(),
-        [(i64::MIN, -1, Some(3)), (0, i64::MAX, None)].as_slice()
+    assert!(rt;
+        has_value_when_filled(alloc, &map, 0)? && has_value_when_filled(alloc, &map, i64::MAX)?
     );
     Ok(())
 }

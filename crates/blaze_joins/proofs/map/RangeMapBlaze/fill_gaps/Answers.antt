@@ -1,6 +1,6 @@
-use Rattle.std.proofs.Common.{◌≡◌, ◌+ℤ◌, pos, arith, refl, ap, sym, ◌∙◌}
+use Rattle.std.proofs.lemmas.Grind.{common_steps}
+use Rattle.std.proofs.Common.{◌≡◌, [], ◌∷◌, ◌+◌, drop, ◌+ℤ◌, pos, arith, refl, ap, sym, ◌∙◌}
 use Rattle.std.proofs.lemmas.Int.{ints}
-use Rattle.std.proofs.lemmas.List.{nil_from_length}
 use Rattle.range_map.specs.Valued.{pairs_in_numbers, pair_in_numbers}
 use Rattle.blaze_joins.proofs.UniversalLemmas.{left_step}
 use Rattle.blaze_joins.proofs.FillLemmas.{filled_gap, filled_pair, filled_end}
@@ -9,13 +9,16 @@ use Rattle.blaze_joins.proofs.map.RangeMapBlaze.fill_gaps.Goals as goal
 pub loop-pair-preserved : goal.loop-pair-preserved
 loop-pair-preserved g c =
     let numbers = g.T.Element.numbers in
-    let pair = pair_in_numbers numbers c.in-Some.pair.now in
-    let is = ap (pairs_in_numbers numbers) c.in-Some.ensures.cases.0 in
-    let above : numbers.number c.in-Some-successor.next ≡ numbers.number c.in-Some.pair.now.0.1 +ℤ pos 1 =
-    c.in-Some-successor.ensures.next.1 ∙ ap (λ x. numbers.number x +ℤ pos 1) c.end.ensures.value in
+    let pair = pair_in_numbers numbers c.pair-item.result in
+    let i = c.loop-pair.pair-index in
+    let items = c.deref-pair-items.result.now in
+    let next : drop i items ≡ c.pair-item.result ∷ drop (i + 1) items = grind (arith, common_steps) in
+    let is = ap (pairs_in_numbers numbers) next in
+    let above : numbers.number c.in-Some.next ≡ numbers.number c.pair-item.result.0.1 +ℤ pos 1 =
+    c.in-Some.ensures.next.1 ∙ ap (λ x. numbers.number x +ℤ pos 1) c.end.ensures.value in
     let gap = filled_gap g.V.PartialEq.eq g.met.V.Eq.laws _ numbers.greatest _ _ _ pair _ _ _ is c.loop-pair.invariant.left c.loop-pair.invariant.filled c.in_ok-push_gap.ensures.labelled in
     record {
-      is_value = c.in-Some-successor.ensures.next.0;
+      is_value = c.in-Some.ensures.next.0;
       map = c.in_ok-push_value.ensures.map;
       left = left_step g.V.PartialEq.eq _ _ _ _ _ pair _ _ is above c.loop-pair.invariant.left;
       filled = filled_pair g.V.PartialEq.eq g.met.V.Eq.laws _ numbers.greatest _ _ _ pair _ _ _ _ _ is c.loop-pair.invariant.left gap
@@ -25,21 +28,23 @@ loop-pair-preserved g c =
 pub returns-in-None-clause-values : goal.returns-in-None-clause-values
 returns-in-None-clause-values g c =
     let numbers = g.T.Element.numbers in
-    let pair = pair_in_numbers numbers c.in-Some.pair.now in
-    let is = ap (pairs_in_numbers numbers) c.in-Some.ensures.cases.0 in
-    let self_is = ap (pairs_in_numbers numbers) c.as_slice-rest.ensures.value ∙ c.self.view_is in
-    let last : numbers.greatest +ℤ pos 1 ≡ numbers.number c.in-Some.pair.now.0.1 +ℤ pos 1 =
+    let pair = pair_in_numbers numbers c.pair-item.result in
+    let i = c.loop-pair.pair-index in
+    let items = c.deref-pair-items.result.now in
+    let next : drop i items ≡ c.pair-item.result ∷ drop (i + 1) items = grind (arith, common_steps) in
+    let is = ap (pairs_in_numbers numbers) next in
+    let last : numbers.greatest +ℤ pos 1 ≡ numbers.number c.pair-item.result.0.1 +ℤ pos 1 =
     ap (λ k. k +ℤ pos 1) (sym (c.in-None.ensures.at_end.0 refl) ∙ ap numbers.number c.end.ensures.value) in
     let gap = filled_gap g.V.PartialEq.eq g.met.V.Eq.laws _ numbers.greatest _ _ _ pair _ _ _ is c.loop-pair.invariant.left c.loop-pair.invariant.filled c.in_ok-push_gap.ensures.labelled in
     let filled = filled_pair g.V.PartialEq.eq g.met.V.Eq.laws _ numbers.greatest _ _ _ pair _ _ (numbers.greatest +ℤ pos 1) _ _ is c.loop-pair.invariant.left gap
     (c.requires _ _ c.in_ok-clone.ensures.cases) c.in_ok-push_value.ensures.labelled last in
-    rw (← self_is) (λ x low high. filled.values x low (omega (arith, ints)))
+    rw (← (ap (pairs_in_numbers numbers) c.deref-pair-items.ensures.value ∙ c.self.view_is)) (λ x low high. filled.values x low (omega (arith, ints)))
 
 pub returns-clause-values : goal.returns-clause-values
 returns-clause-values g c =
     let numbers = g.T.Element.numbers in
-    let none = ap (pairs_in_numbers numbers) (nil_from_length _ c.in_default.ensures.cases) in
-    let self_is = ap (pairs_in_numbers numbers) c.as_slice-rest.ensures.value ∙ c.self.view_is in
+    let left : drop c.loop-pair.pair-index c.deref-pair-items.result.now ≡ [] = grind (arith, common_steps) in
+    let none = ap (pairs_in_numbers numbers) left in
     let filled = filled_end g.V.PartialEq.eq g.met.V.Eq.laws _ numbers.greatest _ _ (numbers.number c.loop-pair.start) (numbers.number c.max_value.result) _ _ none
     c.loop-pair.invariant.left c.loop-pair.invariant.filled (rw c.new.ensures.value at c.in_ok-push_value-2.ensures.labelled) in
-    rw (← self_is) (λ x low high. filled.values x low (omega (arith, ints, c.max_value.ensures.number)))
+    rw (← (ap (pairs_in_numbers numbers) c.deref-pair-items.ensures.value ∙ c.self.view_is)) (λ x low high. filled.values x low (omega (arith, ints, c.max_value.ensures.number)))

@@ -1,4 +1,4 @@
-use Rattle.std.proofs.Common.{length}
+use Rattle.std.proofs.Common.{drop}
 use Rattle.std.specs.Option.{option_eq}
 use Rattle.range_map.specs.Valued.{pairs_in_numbers, IsMap}
 use Rattle.blaze_joins.proofs.UniversalLemmas.{IsLeftFrom}
@@ -9,11 +9,8 @@ abbrev pub invariant-loop-pair : goal.invariant-loop-pair
 invariant-loop-pair g l = record {
   is_value : g.T.Element.numbers.IsValue l.start;
   map : IsMap g.T.Element.numbers (option_eq g.V.PartialEq.eq) l.filled.items;
-  left : IsLeftFrom g.V.PartialEq.eq g.T.Element.numbers.least g.T.Element.numbers.greatest (pairs_in_numbers g.T.Element.numbers l.initial.rest)
-      (pairs_in_numbers g.T.Element.numbers l.rest) (g.T.Element.numbers.number l.start);
-  filled : IsFilled g.V.PartialEq.eq g.met.V.Eq.laws g.T.Element.numbers.least g.T.Element.numbers.greatest (pairs_in_numbers g.T.Element.numbers l.initial.rest)
+  left : IsLeftFrom g.V.PartialEq.eq g.T.Element.numbers.least g.T.Element.numbers.greatest (pairs_in_numbers g.T.Element.numbers l.pair-items)
+      (pairs_in_numbers g.T.Element.numbers (drop l.pair-index l.pair-items)) (g.T.Element.numbers.number l.start);
+  filled : IsFilled g.V.PartialEq.eq g.met.V.Eq.laws g.T.Element.numbers.least g.T.Element.numbers.greatest (pairs_in_numbers g.T.Element.numbers l.pair-items)
       (g.T.Element.numbers.number l.start) (pairs_in_numbers g.T.Element.numbers l.filled.items);
 }
-
-abbrev pub decreases-loop-pair : goal.decreases-loop-pair
-decreases-loop-pair g l = length l.rest

@@ -1,4 +1,4 @@
-use Rattle.std.proofs.Common.{length}
+use Rattle.std.proofs.Common.{drop}
 use Rattle.range_map.specs.Valued.{pairs_in_numbers}
 use Rattle.blaze_joins.proofs.UniversalLemmas.{IsLeftFrom, HaveValuesTo}
 use Rattle.blaze_joins.proofs.map.RangeMapBlaze.is_universal.Given as goal
@@ -6,11 +6,8 @@ use Rattle.blaze_joins.proofs.map.RangeMapBlaze.is_universal.Given as goal
 abbrev pub invariant-loop-pair : goal.invariant-loop-pair
 invariant-loop-pair g l = record {
   is_value : g.T.Element.numbers.IsValue l.start;
-  left : IsLeftFrom g.V.PartialEq.eq g.T.Element.numbers.least g.T.Element.numbers.greatest (pairs_in_numbers g.T.Element.numbers l.initial.rest)
-      (pairs_in_numbers g.T.Element.numbers l.rest) (g.T.Element.numbers.number l.start);
-  have : HaveValuesTo g.V.PartialEq.eq g.T.Element.numbers.least g.T.Element.numbers.greatest (pairs_in_numbers g.T.Element.numbers l.initial.rest)
+  left : IsLeftFrom g.V.PartialEq.eq g.T.Element.numbers.least g.T.Element.numbers.greatest (pairs_in_numbers g.T.Element.numbers l.pair-items)
+      (pairs_in_numbers g.T.Element.numbers (drop l.pair-index l.pair-items)) (g.T.Element.numbers.number l.start);
+  have : HaveValuesTo g.V.PartialEq.eq g.T.Element.numbers.least g.T.Element.numbers.greatest (pairs_in_numbers g.T.Element.numbers l.pair-items)
       (g.T.Element.numbers.number l.start);
 }
-
-abbrev pub decreases-loop-pair : goal.decreases-loop-pair
-decreases-loop-pair g l = length l.rest
