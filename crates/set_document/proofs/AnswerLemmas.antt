@@ -4,8 +4,9 @@ use Rattle.std.specs.Cmp.Lexicographic.{pointwise}
 use Rattle.number_line.specs.Segments.{segments}
 use Rattle.number_line.specs.Valued.{value_at, IsCanonicalMap}
 use Rattle.std.proofs.lemmas.Int.{ints}
+use Rattle.std.proofs.lemmas.Simd.{map-map}
 use Rattle.number_line.specs.Ranges.{holds}
-use Rattle.set_document.specs.Numbers.{least, greatest, i64_runs}
+use Rattle.set_document.specs.Numbers.{least, greatest, above_least, i64_runs}
 use Rattle.set_document.specs.Truth.{Lines, at, named}
 use Rattle.set_document.specs.Answer.{Shape, shape, listed}
 use Rattle.set_document.specs.Lines.{Agree, AllCanonical, lines_of, names_of, shown_lines}
@@ -38,10 +39,6 @@ shown_are_runs (d ∷ ds) (l ∷ ls) c h =
     let head : ◌≡◌ {A = List ℕ × List (ℤ × ℤ)} (d.name.bytes.now, d.set) (l.0, i64_runs l.1) = λ i. (name i, runs i) in
     cc
 
-names_of_lines : (ls : Lines) (x : ℤ) → map (λ l. l.0) (at ls x) ≡ map (λ l. l.0) ls
-names_of_lines [] x = refl
-names_of_lines (l ∷ ls) x = ap (λ rest. l.0 ∷ rest) (names_of_lines ls x)
-
 -- the lines, the index and the table of a text are its shape
 pub shape_is : (text : List ℕ) (done : List Line) (pairs : List (Name × ℕ)) (groups : List ((ℤ × ℤ) × List ℕ)) (slots : List ((ℤ × ℤ) × Option ℕ))
     → AllCanonical done → Agree (lines_of done) (named text) → IsIndex (names_of done) pairs → IsCanonicalMap (pointwise nat_eq) least greatest (tabled groups slots)
@@ -51,9 +48,9 @@ unfolding shape listed names rows
 shape_is text done pairs groups slots canonical agree index rows_canonical values =
     let lines : shown_lines done ≡ map (λ l. (l.0, i64_runs l.1)) (named text) = shown_are_runs done (named text) canonical agree in
     let same_names : names_of done ≡ map (λ l. l.0) (named text) =
-    sym (names_at done least) ∙ (ap (map (λ l. l.0)) (agree least some_number.0 some_number.1) ∙ names_of_lines (named text) least) in
+    sym (names_at done least) ∙ (ap (map (λ l. l.0)) (agree least some_number.0 some_number.1) ∙ map-map (λ (l : List ℕ × Bool). l.0) (λ (l : List ℕ × (ℤ → Bool)). (l.0, l.1 least)) (named text)) in
     let names' : map (λ p. letters p.0) pairs ≡ distinct (map (λ l. l.0) (named text)) = index_names (names_of done) pairs index ∙ ap distinct same_names in
-    let rows' : tabled groups slots ≡ map row_of (segments (pointwise nat_eq) (λ x. held (at (named text) x)) least 18446744073709551615) =
-    rows_are_segments least greatest 18446744073709551615 (λ x. held (at (named text) x)) (tabled groups slots) width rows_canonical
+    let rows' : tabled groups slots ≡ map row_of (segments (pointwise nat_eq) (λ x. held (at (named text) x)) least above_least) =
+    rows_are_segments least greatest above_least (λ x. held (at (named text) x)) (tabled groups slots) width rows_canonical
     (λ x p q. values x p q ∙ ap (λ lines. Some (held lines)) (agree x p q)) in
     λ i. record { lines = lines i; names = names' i; rows = rows' i }

@@ -4,37 +4,31 @@ use Rattle.std.specs.Prelude.{ℤ, pos, ◌+ℤ◌, ◌≤ℤ◌, nat_eq, fold}
 use Rattle.std.specs.Cmp.Lexicographic.{pointwise}
 use Rattle.std.specs.List.{AllByRecursion}
 use Rattle.std.proofs.lemmas.Int.{ints}
-use Rattle.std.proofs.lemmas.Slice.Eq.{bytes_eq-Decides}
+use Rattle.std.proofs.lemmas.List.{length-map}
 use Rattle.number_line.specs.Segments.{Segment, segments, IsCut, IsCover}
 use Rattle.number_line.proofs.SegmentLemmas.{segments_cut, cut_is_segments}
 use Rattle.number_line.proofs.CoverLemmas.{fewest}
 use Rattle.set_document.specs.Laws.{FewestRows, RowsAreFewest}
-use Rattle.set_document.specs.Numbers.{least, greatest}
+use Rattle.set_document.specs.Numbers.{least, greatest, above_least}
 use Rattle.set_document.specs.Table.{names, held, rows, row_of}
 use Rattle.set_document.specs.Text.{lines, form, Comment}
 use Rattle.set_document.specs.Truth.{Lines, at, after_form, after_lines, named}
 use Rattle.set_document.proofs.NumberLemmas.{width}
+use Rattle.set_document.proofs.TableLemmas.{list_itself}
 
-same_itself : (a : List ℕ) → pointwise nat_eq a a ≡ true
-same_itself a = (bytes_eq-Decides a a).1 refl
-
-length_map : {A B : Type 0} (f : A → B) (xs : List A) → length (map f xs) ≡ length xs
-length_map f [] = refl
-length_map f (x ∷ xs) = ap suc (length_map f xs)
-
-fewest_of : (h : ℤ → List ℕ) (cover : List (ℤ × ℤ)) → IsCover h greatest least cover → length (map row_of (segments (pointwise nat_eq) h least 18446744073709551615)) ≤ length cover
+fewest_of : (h : ℤ → List ℕ) (cover : List (ℤ × ℤ)) → IsCover h greatest least cover → length (map row_of (segments (pointwise nat_eq) h least above_least)) ≤ length cover
 fewest_of h cover c =
-    let cut = segments_cut (pointwise nat_eq) h greatest least 18446744073709551615 width in
-    let few = fewest (pointwise nat_eq) same_itself h greatest least (segments (pointwise nat_eq) h least 18446744073709551615) cover cut c in
-    omega (arith, few, length_map row_of (segments (pointwise nat_eq) h least 18446744073709551615))
+    let cut = segments_cut (pointwise nat_eq) h greatest least above_least width in
+    let few = fewest (pointwise nat_eq) list_itself h greatest least (segments (pointwise nat_eq) h least above_least) cover cut c in
+    omega (arith, few, length-map (segments (pointwise nat_eq) h least above_least) row_of)
 
 -- comments name nothing
 only_comments : (done : Lines) (pieces : List (List ℕ)) → AllByRecursion (λ line. form line ≡ Comment) pieces → after_lines done pieces ≡ done
 only_comments done [] all = refl
 only_comments done (piece ∷ pieces) all = ap (λ d. after_lines d pieces) (ap (after_form done) all.0) ∙ only_comments done pieces all.1
 
-one_segment : (h : ℤ → List ℕ) → ((x : ℤ) → h x ≡ []) → segments (pointwise nat_eq) h least 18446744073709551615 ≡ record { first = least; last = greatest; label = [] } ∷ []
-one_segment h none = sym (cut_is_segments (pointwise nat_eq) h greatest least 18446744073709551615 (record { first = least; last = greatest; label = [] } ∷ []) width one)
+one_segment : (h : ℤ → List ℕ) → ((x : ℤ) → h x ≡ []) → segments (pointwise nat_eq) h least above_least ≡ record { first = least; last = greatest; label = [] } ∷ []
+one_segment h none = sym (cut_is_segments (pointwise nat_eq) h greatest least above_least (record { first = least; last = greatest; label = [] } ∷ []) width one)
   where
     one : IsCut (pointwise nat_eq) h greatest least (record { first = least; last = greatest; label = [] } ∷ [])
     one = (refl, omega (arith, ints, width), omega (arith, ints), sym (none least), (λ x p q. rw (none x, none (x +ℤ pos 1)) refl), (λ p. absurd (omega (arith, ints))), refl)

@@ -4,6 +4,7 @@ use Rattle.std.specs.Prelude.{ℤ, pos, ◌+ℤ◌, ◌≤ℤ◌, Bool, true, fa
 use Rattle.std.specs.List.{AllByRecursion}
 use Rattle.std.proofs.lemmas.Int.{ints}
 use Rattle.std.proofs.lemmas.List.{append_assoc, append-nil}
+use Rattle.std.proofs.lemmas.Simd.{map-map}
 use Rattle.number_line.specs.Ranges.{lies_in, holds, IsCanonical}
 use Rattle.number_line.proofs.RangeLemmas.{below_start}
 use Rattle.number_line.proofs.ValuedLemmas.{lies_within}
@@ -93,8 +94,9 @@ pub index_names : (names : List (List ℕ)) (pairs : List (Name × ℕ)) → IsI
 index_names names pairs h = names_from (last_place names) pairs (distinct names) h.lists
 
 pub names_at : (lines : List Line) (x : ℤ) → map (λ l. l.0) (at (lines_of lines) x) ≡ names_of lines
-names_at [] x = refl
-names_at (l ∷ lines) x = ap (λ rest. letters l.name ∷ rest) (names_at lines x)
+names_at lines x =
+    map-map (λ (l : List ℕ × Bool). l.0) (λ (l : List ℕ × (ℤ → Bool)). (l.0, l.1 x)) (lines_of lines)
+    ∙ map-map (λ (l : List ℕ × (ℤ → Bool)). l.0) (λ (l : Line). (letters l.name, holds l.set)) lines
 
 -- the names that hold, by the pairs of the index
 pub held_by_index : (lines : List Line) (pairs : List (Name × ℕ)) (x : ℤ) → IsIndex (names_of lines) pairs

@@ -8,7 +8,7 @@ use Rattle.std.specs.Cmp.{unsigned_ties}
 use Rattle.std.specs.Cmp.Lexicographic.{lists_ties, nat_list_cmp_total}
 use Rattle.std.specs.Ordering.{match_ordering, nat_cmp, is_eq, ordering_reverse}
 use Rattle.std.specs.List.Sorted.{IsStrictlySortedBy}
-use Rattle.std.proofs.lemmas.List.{map-append}
+use Rattle.std.proofs.lemmas.List.{map-append, length-map}
 use Rattle.std.proofs.lemmas.List.Sums.{fold-append}
 use Rattle.std.proofs.lemmas.Slice.Eq.{bytes_eq-Decides}
 use Rattle.number_line.specs.Ranges.{holds}
@@ -215,10 +215,6 @@ indexed_behind names pairs k h = record {
 
 -- ---- what a look-up finds
 
-length_names : (lines : List Line) → length (names_of lines) ≡ length lines
-length_names [] = refl
-length_names (l ∷ lines) = ap suc (length_names lines)
-
 module _ (lines : List Line) (name : List ℕ) where
   -- no place, and so no line
   pub nothing_latest : (x : ℤ) → last_place (names_of lines) name ≡ None → None ≡ latest (at (lines_of lines) x) name
@@ -232,7 +228,7 @@ module _ (lines : List Line) (name : List ℕ) where
       → Some (holds line.set x) ≡ latest (at (lines_of lines) x) name
   something_latest x i line e f =
       let within = place_in_range (names_of lines) name i e in
-      let there : slice_get lines i ≡ Some line = get_is lines i line (omega (arith, within, length_names lines)) f in
+      let there : slice_get lines i ≡ Some line = get_is lines i line (omega (arith, within, length-map lines (λ (l : Line). letters l.name))) f in
       sym (latest_is_placed x lines name ∙ (ap (value_from x lines None) e ∙ ap (option_map (λ l. holds l.set x)) there))
 
   pub something_known : (i : ℕ) → last_place (names_of lines) name ≡ Some i → true ≡ list_any (λ n. bytes_eq n name) (names_of lines)
@@ -240,7 +236,7 @@ module _ (lines : List Line) (name : List ℕ) where
 
   -- there is a line at each place
   pub line_at_place : (i : ℕ) → last_place (names_of lines) name ≡ Some i → length lines ≤ i → ⊥
-  line_at_place i e h = let within = place_in_range (names_of lines) name i e in omega (arith, within, length_names lines)
+  line_at_place i e h = let within = place_in_range (names_of lines) name i e in omega (arith, within, length-map lines (λ (l : Line). letters l.name))
 
 -- the index once a line stands behind the others
 pub pushed_indexed : (lines lines' : List Line) (pairs pairs' : List (Name × ℕ)) (line : Line) (place : ℕ) → lines' ≡ lines ++ line ∷ [] → place ≡ length lines
@@ -248,4 +244,4 @@ pub pushed_indexed : (lines lines' : List Line) (pairs pairs' : List (Name × �
 pushed_indexed lines lines' pairs pairs' line place e f g h =
     let grown : names_of (lines ++ line ∷ []) ≡ names_of lines ++ letters line.name ∷ [] = map-append (λ l. letters l.name) lines (line ∷ []) in
     let indexed = indexed_behind (names_of lines) pairs line.name h in
-    rw (e, grown, g, f, ← length_names lines) indexed
+    rw (e, grown, g, f, ← length-map lines (λ (l : Line). letters l.name)) indexed

@@ -3,21 +3,21 @@ use Rattle.std.proofs.Common.{◌≡◌, refl, List}
 use Rattle.std.specs.Prelude.{ℤ, pos, ◌+ℤ◌, Bool, ◌≤ℤ◌}
 use Rattle.number_line.specs.Ranges.{holds, IsCanonical}
 use Rattle.number_line.proofs.SegmentLemmas.{canonical_is_runs, runs_canonical, runs_hold}
-use Rattle.set_document.specs.Numbers.{least, greatest, i64_runs}
+use Rattle.set_document.specs.Numbers.{least, greatest, above_least, i64_runs}
 use Rattle.set_document.specs.Laws.{RunsAreTheRanges}
 
-pub width : greatest ≡ least +ℤ pos 18446744073709551615
+pub width : greatest ≡ least +ℤ pos above_least
 unfolding least greatest
 width = refl
 
 pub canonical_is_i64_runs : (f : ℤ → Bool) (list : List (ℤ × ℤ)) → IsCanonical least greatest list
     → ((x : ℤ) → least ≤ℤ x → x ≤ℤ greatest → holds list x ≡ f x) → list ≡ i64_runs f
 unfolding i64_runs
-canonical_is_i64_runs f list c h = canonical_is_runs f greatest least 18446744073709551615 list width c h
+canonical_is_i64_runs f list c h = canonical_is_runs f greatest least above_least list width c h
 
 i64_runs_canonical : (f : ℤ → Bool) → IsCanonical least greatest (i64_runs f) × ((x : ℤ) → least ≤ℤ x → x ≤ℤ greatest → holds (i64_runs f) x ≡ f x)
 unfolding i64_runs
-i64_runs_canonical f = (runs_canonical f greatest least 18446744073709551615 width, runs_hold f greatest least 18446744073709551615 width)
+i64_runs_canonical f = (runs_canonical f greatest least above_least width, runs_hold f greatest least above_least width)
 
 pub runs_are_the_ranges : RunsAreTheRanges
 runs_are_the_ranges f = (i64_runs_canonical f, canonical_is_i64_runs f)

@@ -30,7 +30,7 @@ number_is a b e = (Decides-eqb a b).0 e
 list_is : (a b : List ℕ) → pointwise nat_eq a b ≡ true → a ≡ b
 list_is a b e = (bytes_eq-Decides a b).0 e
 
-list_itself : (a : List ℕ) → pointwise nat_eq a a ≡ true
+pub list_itself : (a : List ℕ) → pointwise nat_eq a a ≡ true
 list_itself a = (bytes_eq-Decides a a).1 refl
 
 place_itself : (a : Option ℕ) → option_eq nat_eq a a ≡ true

@@ -3,7 +3,7 @@ use Rattle.std.specs.Prelude.{ℕ, ◌+◌, ℤ, Bool, false, if◌then◌else�
 use Rattle.std.specs.Cmp.Lexicographic.{pointwise}
 use Rattle.number_line.specs.Segments.{Segment, segments}
 use Rattle.set_document.specs.Names.{distinct}
-use Rattle.set_document.specs.Numbers.{least}
+use Rattle.set_document.specs.Numbers.{least, above_least}
 use Rattle.set_document.specs.Truth.{at, latest, named}
 
 -- the distinct names of a text, in the order of their bytes
@@ -29,4 +29,4 @@ row_of s = ((s.first, s.last), s.label)
 
 -- the rows of a text: the numbers cut where the names that hold change
 unfoldable pub rows : List ℕ → List ((ℤ × ℤ) × List ℕ)
-rows text = map row_of (segments (pointwise nat_eq) (λ x. held (at (named text) x)) least 18446744073709551615)
+rows text = map row_of (segments (pointwise nat_eq) (λ x. held (at (named text) x)) least above_least)

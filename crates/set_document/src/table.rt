@@ -63,9 +63,7 @@ fn push_ranges(
     ensures { OnOk result (holders.new ≡ holders.old ++ map (λ range. (range, position)) set.now) }
 {
     for range in set.ranges() {
-        if holders.insert(range, position).is_err() {
-            return Err(NoMemory);
-        }
+        holders.insert(range, position).map_err(|_| NoMemory)?;
     }
     Ok(())
 }
