@@ -1,14 +1,14 @@
 -- The rows of a text are the fewest.
-use Rattle.std.proofs.Common.{◌≡◌, ℕ, ◌≤◌, List, [], ◌∷◌, length, map, refl, sym, ◌∙◌, ap, arith, true, suc}
-use Rattle.std.specs.Prelude.{ℤ, pos, ◌+ℤ◌, ◌≤ℤ◌, nat_eq, fold}
+use Rattle.std.proofs.Common.{◌≡◌, ℕ, ◌≤◌, List, [], ◌∷◌, length, map, refl, sym, ◌∙◌, ap, arith}
+use Rattle.std.specs.Prelude.{ℤ, pos, ◌+ℤ◌, nat_eq}
 use Rattle.std.specs.Cmp.Lexicographic.{pointwise}
 use Rattle.std.specs.List.{AllByRecursion}
 use Rattle.std.proofs.lemmas.Int.{ints}
 use Rattle.std.proofs.lemmas.List.{length-map}
-use Rattle.number_line.specs.Segments.{Segment, segments, IsCut, IsCover}
+use Rattle.number_line.specs.Segments.{segments, IsCut, IsCover}
 use Rattle.number_line.proofs.SegmentLemmas.{segments_cut, cut_is_segments}
 use Rattle.number_line.proofs.CoverLemmas.{fewest}
-use Rattle.set_document.specs.Laws.{FewestRows, RowsAreFewest}
+use Rattle.set_document.specs.Laws.{RowsAreFewest}
 use Rattle.set_document.specs.Numbers.{least, greatest, above_least}
 use Rattle.set_document.specs.Table.{names, held, rows, row_of}
 use Rattle.set_document.specs.Text.{lines, form, Comment}

@@ -1,6 +1,6 @@
 -- The ranges of each name's last line, and the names that hold at a number.
-use Rattle.std.proofs.Common.{◌≡◌, ℕ, suc, ◌+◌, List, [], ◌∷◌, ◌++◌, map, refl, sym, ◌∙◌, ap, subst, arith, get_or, length, ◌<◌, ◌≤◌}
-use Rattle.std.specs.Prelude.{ℤ, pos, ◌+ℤ◌, ◌≤ℤ◌, Bool, true, false, ◌||◌, if◌then◌else◌, Option, Some, None, unwrap_or}
+use Rattle.std.proofs.Common.{◌≡◌, ℕ, ◌+◌, List, [], ◌∷◌, ◌++◌, map, refl, sym, ◌∙◌, ap, subst, arith, get_or, length, ◌<◌, ◌≤◌}
+use Rattle.std.specs.Prelude.{ℤ, pos, ◌+ℤ◌, Bool, true, false, ◌||◌, if◌then◌else◌, Option, Some, unwrap_or}
 use Rattle.std.specs.List.{AllByRecursion}
 use Rattle.std.proofs.lemmas.Int.{ints}
 use Rattle.std.proofs.lemmas.List.{append_assoc, append-nil}
@@ -13,7 +13,7 @@ use Rattle.set_document.specs.Lines.{lines_of, names_of, AllCanonical}
 use Rattle.set_document.specs.Names.{last_place, distinct, IsIndex}
 use Rattle.set_document.specs.Numbers.{least, greatest}
 use Rattle.set_document.specs.Table.{places_where, is_held, held}
-use Rattle.set_document.specs.Truth.{at, latest}
+use Rattle.set_document.specs.Truth.{at}
 use Rattle.set_document.specs.Words.{letters}
 use Rattle.set_document.specs.declared.named_lines.Line.{Line}
 use Rattle.set_document.specs.declared.word.Name.{Name}

@@ -1,5 +1,5 @@
 -- What is read at a place of an answer.
-use Rattle.std.proofs.Common.{◌≡◌, ℕ, zero, suc, ◌<◌, List, [], ◌∷◌, ◌++◌, map, length, slice_get, get_or, Some, None, Option, refl, sym, ◌∙◌, ap, w64, arith}
+use Rattle.std.proofs.Common.{◌≡◌, ℕ, ◌<◌, List, [], ◌∷◌, ◌++◌, map, length, slice_get, get_or, Some, Option, refl, sym, ◌∙◌, ap, w64}
 use Rattle.std.specs.Prelude.{ℤ, codes}
 use Rattle.std.specs.Option.{option_map}
 use Rattle.std.proofs.lemmas.Option.{slice_get-map}
@@ -9,7 +9,6 @@ use Rattle.ordered_lists.proofs.SearchLemmas.{get_is}
 use Rattle.range_map.specs.Valued.{pairs_in_numbers}
 use Rattle.set_document.specs.Answer.{name_text}
 use Rattle.set_document.specs.Lines.{names_of, shown_lines}
-use Rattle.set_document.specs.Names.{with_last_places}
 use Rattle.set_document.specs.Tabled.{held_at_place, tabled}
 use Rattle.set_document.specs.Words.{letters}
 use Rattle.set_document.specs.declared.named_lines.Line.{Line}

@@ -1,5 +1,5 @@
 -- From the ranges of names, grouped, placed and filled, to the rows of the table.
-use Rattle.std.proofs.Common.{◌≡◌, ℕ, zero, suc, ◌+◌, List, [], ◌∷◌, map, refl, sym, ◌∙◌, ap, subst, reverse, arith, w64}
+use Rattle.std.proofs.Common.{◌≡◌, ℕ, ◌+◌, List, [], ◌∷◌, map, refl, sym, ◌∙◌, ap, subst, reverse, arith, w64}
 use Rattle.std.specs.Prelude.{ℤ, pos, ◌+ℤ◌, ◌≤ℤ◌, ◌<ℤ◌, Bool, true, false, Option, Some, None, nat_eq, unwrap_or}
 use Rattle.std.specs.Cmp.Lexicographic.{pointwise}
 use Rattle.std.specs.Option.{option_map, option_eq}
@@ -8,7 +8,7 @@ use Rattle.std.proofs.lemmas.Int.{ints}
 use Rattle.std.proofs.lemmas.Slice.Eq.{bytes_eq-Decides}
 use Rattle.number_line.specs.Segments.{segments}
 use Rattle.number_line.specs.Valued.{value_at, IsCanonicalMap, HasValues}
-use Rattle.number_line.specs.Rows.{revalued, segment_of, place_at, value_of_place, with_places}
+use Rattle.number_line.specs.Rows.{segment_of, place_at, with_places}
 use Rattle.number_line.proofs.RowLemmas.{value_revalued, revalued_canonical, total_is_segments, value_is_placed, place_is_valued, nothing_is_placed, value_reversed, places_canonical, same_value_same_place}
 use Rattle.element_core.specs.Numberings.{signed}
 use Rattle.blaze_joins.specs.LastValue.{last_value_at}

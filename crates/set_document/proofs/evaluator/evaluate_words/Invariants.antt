@@ -1,6 +1,6 @@
 -- What is left gives the same fault, and the same truth values, as the whole line from nothing.
-use Rattle.std.proofs.Common.{◌≡◌, ℕ, ◌+◌, ◌≤◌, length, List, []}
-use Rattle.std.specs.Prelude.{ℤ, Bool, ◌≤ℤ◌, option_copied}
+use Rattle.std.proofs.Common.{◌≡◌, ◌+◌, ◌≤◌, length, []}
+use Rattle.std.specs.Prelude.{ℤ, ◌≤ℤ◌, option_copied}
 use Rattle.set_document.specs.Numbers.{least, greatest}
 use Rattle.set_document.specs.Text.{words}
 use Rattle.set_document.specs.Truth.{at, after_words}

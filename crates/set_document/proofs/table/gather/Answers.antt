@@ -1,9 +1,5 @@
-use Rattle.std.proofs.Common.{◌≡◌, ◌∙◌, ◌++◌, ap, map, length, arith}
-use Rattle.range_multimap.specs.Grouped.{grouped_at}
-use Rattle.set_document.specs.Lines.{lines_of, names_of}
-use Rattle.set_document.specs.Table.{places_where, is_held}
-use Rattle.set_document.specs.Truth.{at}
-use Rattle.set_document.specs.Words.{letters}
+use Rattle.std.proofs.Common.{◌∙◌, ap, length, arith}
+use Rattle.set_document.specs.Lines.{names_of}
 use Rattle.set_document.proofs.GatherLemmas.{all_placed, held_by_index, placed_rest, name_put_in, line_is_there}
 use Rattle.set_document.proofs.table.gather.Goals as goal
 use Rattle.set_document.proofs.table.gather.Goals.{in-Some-get+in_ok-push_ranges, in_default}
