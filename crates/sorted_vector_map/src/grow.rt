@@ -1,11 +1,11 @@
 //! Putting many pairs in at once.
-ghost use Rattle.std.specs.Prelude.{Some, true, ◌≡◌, ◌≤◌, ◌+◌, ◌++◌, List, [], length, map, take, IfSome, IfNone, IfOk, IfErr, OnOk, OnErr, is_ok, if◌then◌else◌};
+ghost use Rattle.std.specs.Prelude.{Some, true, ◌≡◌, ◌≤◌, ◌+◌, ◌++◌, List, [], ◌∷◌, length, map, take, IsTrue, IsOk, IfSome, IfNone, IfOk, IfErr, OnOk, OnErr, is_ok, if◌then◌else◌};
 ghost use Rattle.std.specs.Borrow.{Bor};
 ghost use Rattle.std.specs.Iterator.{IsFinite, Drains};
 ghost use Rattle.std.specs.List.Sorted.{IsPermutation, IsSorted, IsStrictlySortedBy};
 ghost use Rattle.std.specs.Map.Iter.{deref_pair};
 ghost use Rattle.std.specs.Vec.{vec_len};
-ghost use Rattle.ordered_lists.specs.Lists.{by_key, sets};
+ghost use Rattle.ordered_lists.specs.Lists.{by_key, to_key, has, sets};
 ghost use Rattle.sorted_vector_map.specs.Cloned.{AreClones};
 ghost use Rattle.sorted_vector_map.specs.Grown.{extended};
 
@@ -20,14 +20,20 @@ impl<K: Ord, V> SortedVectorMap<K, V> {
     /// Puts the pairs of `new` in. No pair changes nothing; one pair is put in as by `insert`, so a stored key stays. Of
     /// more pairs the last of equal keys wins, and its key and value replace a stored pair.
     ///
-    /// Where memory is short the map stays and the same pairs come back, in any order. It takes O(m log m) comparisons
-    /// for m new pairs, and time for the pairs whose keys are above the least new one.
+    /// Where memory is short the map stays and the same pairs come back, in any order. That never happens without a pair,
+    /// nor with one that `insert` would take. It takes O(m log m) comparisons for m new pairs, and time for the pairs
+    /// whose keys are above the least new one.
     pub fn extend_with_vec(&mut self, new: Vec<(K, V)>) -> Result<(), Refused<Vec<(K, V)>>>
     where
         K: Drop,
         V: Drop,
         ensures pairs { self.new.pairs ≡ (if is_ok result then extended K.cmp self.old.pairs new.items else self.old.pairs) }
         ensures given { IfErr result (λ refused. IsPermutation new.items refused.given.items) }
+        ensures none { new.items ≡ [] → IsOk result }
+        ensures present { (p : K × V) → new.items ≡ p ∷ [] → IsTrue (has (to_key K.cmp) self.old.pairs p.0) → IsOk result }
+        ensures roomy { length new.items ≤ 1 → 1 ≤ self.old.spare → IsOk result }
+        ensures spare { length new.items ≤ 1 → self.old.spare ≤ self.new.spare + 1 }
+        ensures kept_spare { (p : K × V) → new.items ≡ p ∷ [] → IsTrue (has (to_key K.cmp) self.old.pairs p.0) → self.old.spare ≤ self.new.spare }
     {
         if new.len() <= 1 {
             self.extend_with_one(new)
@@ -89,13 +95,14 @@ impl<K: Ord, V> SortedVectorMap<K, V> {
     ///
     /// Where memory is short both maps stay. It takes O(m) time for the m pairs of both maps whose keys aren't below the
     /// least key of `other`, with one search for that key and amortised growth. Where this map is empty it takes O(1)
-    /// time and no memory.
+    /// time and no memory, so it is never refused.
     pub fn append(&mut self, other: &mut Self) -> Result<(), NoMemory>
     where
         K: Drop,
         V: Drop,
         ensures pairs { self.new.pairs ≡ (if is_ok result then sets (by_key K.cmp) self.old.pairs other.old.pairs else self.old.pairs) }
         ensures other { other.new.pairs ≡ (if is_ok result then [] else other.old.pairs) }
+        ensures none { self.old.pairs ≡ [] → IsOk result }
     {
         let alloc = *other.items.allocator();
         if self.items.is_empty() {
@@ -160,6 +167,11 @@ impl<K: Ord, V> SortedVectorMap<K, V> {
         requires { vec_len new ≤ 1 }
         ensures pairs { self.new.pairs ≡ (if is_ok result then extended K.cmp self.old.pairs new.items else self.old.pairs) }
         ensures given { IfErr result (λ refused. refused.given.items ≡ new.items) }
+        ensures none { new.items ≡ [] → IsOk result }
+        ensures present { (p : K × V) → new.items ≡ p ∷ [] → IsTrue (has (to_key K.cmp) self.old.pairs p.0) → IsOk result }
+        ensures roomy { 1 ≤ self.old.spare → IsOk result }
+        ensures spare { self.old.spare ≤ self.new.spare + 1 }
+        ensures kept_spare { (p : K × V) → new.items ≡ p ∷ [] → IsTrue (has (to_key K.cmp) self.old.pairs p.0) → self.old.spare ≤ self.new.spare }
     {
         let Some((k, v)) = new.pop() else {
             return Ok(());
