@@ -60,6 +60,7 @@ impl<K: Ord, V> SortedVectorMap<K, V> {
     fn place_after(&self, q: &K) -> usize
         ensures { IsCutAt (λ p. is_le (K.cmp p.0 q.now)) self.now.pairs result }
     {
+        // Gives the proof that the place after one is a `usize` too.
         let _len = self.items.len();
         match self.search(q) {
             Ok(at) => at + 1,
@@ -67,6 +68,7 @@ impl<K: Ord, V> SortedVectorMap<K, V> {
         }
     }
 
+    // The place of the first pair whose key isn't below the low bound.
     pub(crate) fn start_of(&self, low: Bound<&K>) -> usize
         ensures { IsCutAt (λ p. is_before K.cmp (bound_map (λ k. k.now) low.entry) p.0) self.now.pairs result }
     {
@@ -77,6 +79,7 @@ impl<K: Ord, V> SortedVectorMap<K, V> {
         }
     }
 
+    // The place of the first pair whose key is above the high bound.
     pub(crate) fn end_of(&self, high: Bound<&K>) -> usize
         ensures { IsCutAt (λ p. is_within K.cmp (bound_map (λ k. k.now) high.entry) p.0) self.now.pairs result }
     {
