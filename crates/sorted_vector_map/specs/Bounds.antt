@@ -1,8 +1,9 @@
 -- Which keys lie between two bounds.
-use Rattle.std.specs.Prelude.{Bool, true, false, IsTrue, ⊤}
+use Rattle.std.specs.Prelude.{Bool, true, false, not, ◌&&◌, List, IsTrue, ⊤}
 use Rattle.std.specs.declared.cmp.Ordering.{Ordering}
 use Rattle.std.specs.declared.ops.Bound.{Bound}
 use Rattle.std.specs.declared.ops.Bound.TheVariants.{Included, Excluded, Unbounded}
+use Rattle.std.specs.List.{filter}
 use Rattle.std.specs.Ordering.{is_lt, is_le}
 
 module _ {K : Type 0} (cmp : K → K → Ordering) where
@@ -17,6 +18,10 @@ module _ {K : Type 0} (cmp : K → K → Ordering) where
   is_within (Included x) k = is_le (cmp k x)
   is_within (Excluded x) k = is_lt (cmp k x)
   is_within Unbounded k = true
+
+  -- the pairs whose keys lie between the bounds
+  abbrev pub pairs_within : {V : Type 0} → Bound K → Bound K → List (K × V) → List (K × V)
+  pairs_within low high ps = filter (λ p. not (is_before low p.0) && is_within high p.0) ps
 
   -- the low key is at most the high one, and they aren't equal and both excluded
   abbrev pub AreInOrder : Bound K → Bound K → Type 0

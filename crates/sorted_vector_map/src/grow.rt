@@ -160,6 +160,7 @@ impl<K: Ord, V> SortedVectorMap<K, V> {
         Ok(SortedVectorMap { items })
     }
 
+    // The part of `extend_with_vec` for one pair or none.
     fn extend_with_one(&mut self, mut new: Vec<(K, V)>) -> Result<(), Refused<Vec<(K, V)>>>
     where
         K: Drop,
@@ -185,6 +186,7 @@ impl<K: Ord, V> SortedVectorMap<K, V> {
         }
     }
 
+    // The part of `extend_with_vec` for more pairs.
     fn extend_with_many(&mut self, mut new: Vec<(K, V)>) -> Result<(), Refused<Vec<(K, V)>>>
     where
         K: Drop,
@@ -256,6 +258,7 @@ impl<K: Ord, V> SortedVectorMap<K, V> {
     }
 }
 
+// The pairs of a tree, in a vector that takes its memory at once.
 fn pairs_of<K: Ord + Drop, V: Drop>(
     alloc: Global,
     bmap: BTreeMap<K, V>,

@@ -1,13 +1,12 @@
 //! The values of a map for writing, in the order of their keys.
 ghost use types.Logic.{sem};
-ghost use Rattle.std.specs.Prelude.{◌≡◌, ◌&&◌, not, length, map};
+ghost use Rattle.std.specs.Prelude.{◌≡◌, length, map};
 ghost use Rattle.std.specs.Iterator.{at_most};
-ghost use Rattle.std.specs.List.{filter};
 ghost use Rattle.std.specs.List.Sorted.{IsStrictlySortedBy};
 ghost use Rattle.std.specs.Map.Iter.{deref_pair_mut};
 ghost use Rattle.std.specs.Range.Bound.{bound_map};
 ghost use Rattle.ordered_lists.specs.Lists.{by_key};
-ghost use Rattle.sorted_vector_map.specs.Bounds.{is_before, is_within, AreInOrder};
+ghost use Rattle.sorted_vector_map.specs.Bounds.{pairs_within, AreInOrder};
 ghost use Rattle.sorted_vector_map.specs.Hints.{IsExact};
 ghost use Rattle.sorted_vector_map.specs.Lending.{LendsFirstOf, LendsLastOf, ComesForWriting, deref_mut};
 ghost use Rattle.sorted_vector_map.specs.Refilled.{lends_values, KeepsKeys, KeepsLength};
@@ -61,7 +60,7 @@ impl<K: Ord, V> SortedVectorMap<K, V> {
         ensures* writes_back { sem 𝓛 (lends_values K.row V.row K.Ord self.entry result.loan) }
         ensures keys { KeepsKeys self.old }
         ensures len { KeepsLength self.old }
-        ensures pairs { ComesForWriting deref_pair_mut (filter (λ p. not (is_before K.cmp (bound_map (λ k. k.now) low.entry) p.0) && is_within K.cmp (bound_map (λ k. k.now) high.entry) p.0) self.old.pairs) result.rest }
+        ensures pairs { ComesForWriting deref_pair_mut (pairs_within K.cmp (bound_map (λ k. k.now) low.entry) (bound_map (λ k. k.now) high.entry) self.old.pairs) result.rest }
         ensures ascending { IsStrictlySortedBy (by_key K.cmp) self.old.pairs }
     {
         let start = self.start_of(low);

@@ -7,10 +7,10 @@ ghost use Rattle.sorted_vector_map.specs.Coming.{ComesByReference, ComesByValue,
 
 use crate::map::SortedVectorMap;
 
-mod lent;
+mod borrowed;
 mod owned;
 
-pub use lent::{Iter, Keys, Values};
+pub use borrowed::{Iter, Keys, Values};
 pub use owned::{IntoKeys, IntoValues};
 
 impl<K: Ord, V> SortedVectorMap<K, V> {

@@ -30,7 +30,8 @@ impl<V> Drop for Lent<'_, V> {
 }
 
 impl<'a, V> Lent<'a, V> {
-    // Leaves out all but `count` cells from the `start`-th on.
+    // Leaves out all but `count` cells from the `start`-th on. Nothing is done when it runs: what is left out is known to the
+    // proofs alone.
     pub(crate) fn narrow(&mut self, start: usize, count: usize)
         ensures cells { self.new.cells ≡ take count (drop start self.old.cells) }
         ensures tie { self.new.tie ≡ self.old.tie }

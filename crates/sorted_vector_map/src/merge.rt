@@ -69,6 +69,7 @@ fn move_behind<K: Drop, V: Drop>(mut right: Vec<(K, V)>, merged: &mut Vec<(K, V)
     let _ = merged.append(&mut right);
 }
 
+// The same of two queues.
 fn merge_queues<K: Ord + Drop, V: Drop>(
     mut left: VecDeque<(K, V)>,
     mut right: VecDeque<(K, V)>,

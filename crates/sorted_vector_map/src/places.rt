@@ -44,6 +44,7 @@ impl<K: Ord, V> SortedVectorMap<K, V> {
         }
     }
 
+    // The pair at a place.
     pub(crate) fn pair_at(&self, at: usize) -> (&K, &V)
         requires { at < length self.now.pairs }
         ensures { slice_get self.now.pairs at ≡ Some (result.0.now, result.1.now) }
@@ -52,6 +53,7 @@ impl<K: Ord, V> SortedVectorMap<K, V> {
         (&pair.0, &pair.1)
     }
 
+    // Puts v in the place of the value there, which is the answer.
     pub(crate) fn write_at(&mut self, at: usize, v: V) -> V
         requires { at < length self.old.pairs }
         ensures pairs { self.new.pairs ≡ set_value self.old.pairs at v }
@@ -61,6 +63,7 @@ impl<K: Ord, V> SortedVectorMap<K, V> {
         replace(&mut self.items[at].1, v)
     }
 
+    // The value there, for writing.
     pub(crate) fn value_mut_at(&mut self, at: usize) -> &mut V
         requires { at < length self.old.pairs }
         ensures* writes_back { sem 𝓛 (lends_at K.row V.row K.Ord self.entry at result) }
@@ -69,6 +72,7 @@ impl<K: Ord, V> SortedVectorMap<K, V> {
         &mut self.items[at].1
     }
 
+    // Puts a pair in at the place of its key, which is missing.
     pub(crate) fn insert_at(&mut self, at: usize, k: K, v: V) -> Result<(), Refused<(K, V)>>
         requires { IsPairMissing K.cmp self.old.pairs k at }
         ensures pairs { self.new.pairs ≡ (if is_ok result then insert self.old.pairs at (k, v) else self.old.pairs) }
@@ -84,6 +88,7 @@ impl<K: Ord, V> SortedVectorMap<K, V> {
         Ok(())
     }
 
+    // The same, and answers the value for writing.
     pub(crate) fn insert_mut_at(&mut self, at: usize, k: K, v: V) -> Result<&mut V, Refused<(K, V)>>
         requires { IsPairMissing K.cmp self.old.pairs k at }
         ensures* writes_back { sem 𝓛 (lends_added K.row V.row K.Ord self.entry at k result) }
@@ -95,6 +100,7 @@ impl<K: Ord, V> SortedVectorMap<K, V> {
         Ok(self.value_mut_at(at))
     }
 
+    // Takes the pair there out.
     pub(crate) fn remove_at(&mut self, at: usize) -> (K, V)
         requires { at < length self.old.pairs }
         ensures pairs { self.new.pairs ≡ remove self.old.pairs at }

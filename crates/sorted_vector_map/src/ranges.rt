@@ -1,5 +1,5 @@
 //! Parts of a map between two keys.
-ghost use Rattle.std.specs.Prelude.{◌≡◌, ◌&&◌, not, OnOk, OnErr, IfOk};
+ghost use Rattle.std.specs.Prelude.{◌≡◌, not, OnOk, OnErr, IfOk};
 ghost use Rattle.std.specs.List.{filter};
 ghost use Rattle.std.specs.List.Sorted.{IsStrictlySortedBy};
 ghost use Rattle.std.specs.Map.Iter.{deref_pair};
@@ -7,7 +7,7 @@ ghost use Rattle.std.specs.Ordering.{is_lt, is_le};
 ghost use Rattle.std.specs.Range.Bound.{bound_map};
 ghost use Rattle.ordered_lists.specs.Lists.{by_key};
 ghost use Rattle.ordered_lists.specs.Search.{IsCutAt};
-ghost use Rattle.sorted_vector_map.specs.Bounds.{is_before, is_within, AreInOrder};
+ghost use Rattle.sorted_vector_map.specs.Bounds.{is_before, is_within, pairs_within, AreInOrder};
 ghost use Rattle.sorted_vector_map.specs.Coming.{ComesByReference};
 
 use crate::iters::Iter;
@@ -21,7 +21,7 @@ impl<K: Ord, V> SortedVectorMap<K, V> {
     /// they aren't equal and both excluded. It takes O(log n) comparisons and no memory.
     pub fn range(&self, low: Bound<&K>, high: Bound<&K>) -> Iter<'_, K, V>
         requires { AreInOrder K.cmp (bound_map (λ k. k.now) low) (bound_map (λ k. k.now) high) }
-        ensures pairs { ComesByReference deref_pair (filter (λ p. not (is_before K.cmp (bound_map (λ k. k.now) low.entry) p.0) && is_within K.cmp (bound_map (λ k. k.now) high.entry) p.0) self.now.pairs) result }
+        ensures pairs { ComesByReference deref_pair (pairs_within K.cmp (bound_map (λ k. k.now) low.entry) (bound_map (λ k. k.now) high.entry) self.now.pairs) result }
         ensures ascending { IsStrictlySortedBy (by_key K.cmp) self.now.pairs }
     {
         let start = self.start_of(low);
@@ -60,6 +60,7 @@ impl<K: Ord, V> SortedVectorMap<K, V> {
     fn place_after(&self, q: &K) -> usize
         ensures { IsCutAt (λ p. is_le (K.cmp p.0 q.now)) self.now.pairs result }
     {
+        // Gives the proof that the place after one is a `usize` too.
         let _len = self.items.len();
         match self.search(q) {
             Ok(at) => at + 1,
@@ -67,6 +68,7 @@ impl<K: Ord, V> SortedVectorMap<K, V> {
         }
     }
 
+    // The place of the first pair whose key isn't below the low bound.
     pub(crate) fn start_of(&self, low: Bound<&K>) -> usize
         ensures { IsCutAt (λ p. is_before K.cmp (bound_map (λ k. k.now) low.entry) p.0) self.now.pairs result }
     {
@@ -77,6 +79,7 @@ impl<K: Ord, V> SortedVectorMap<K, V> {
         }
     }
 
+    // The place of the first pair whose key is above the high bound.
     pub(crate) fn end_of(&self, high: Bound<&K>) -> usize
         ensures { IsCutAt (λ p. is_within K.cmp (bound_map (λ k. k.now) high.entry) p.0) self.now.pairs result }
     {

@@ -36,6 +36,7 @@ fn bring_forward<K, V, F: FnMut(&K, &mut V) -> bool>(f: &mut F, pairs: &mut [(K,
     kept
 }
 
+// What f answers at the pair, whose value it may write.
 fn passes<K, V, F: FnMut(&K, &mut V) -> bool>(f: &mut F, pair: &mut (K, V)) -> bool
     requires { TakesPair F.FnMut f.old pair.old.0 pair.old.1 }
     ensures called { CalledAtPair F.FnMut f.old pair.old.0 pair.old.1 result pair.new.1 f.new }

@@ -281,3 +281,60 @@ fn pairs_are_taken_out(rt: HostRuntime) -> Result<(), Fail> {
     assert!(rt; map.last_entry().is_none());
     Ok(())
 }
+
+#[test]
+fn a_map_and_its_entries_are_shown(rt: HostRuntime) -> Result<(), Fail> {
+    let mut map = SortedVectorMap::try_from_iter(rt.alloc(), [(2u32, 20u32), (1, 10)])?;
+    let shown = format!(in rt.alloc(); "{map:?}")?;
+    assert_eq!(rt; shown.as_str(), "{1: 10, 2: 20}");
+    let occupied = map.entry(2);
+    let pair = format!(in rt.alloc(); "{occupied:?}")?;
+    assert_eq!(rt; pair.as_str(), "{2: 20}");
+    let vacant = map.entry(3);
+    let key = format!(in rt.alloc(); "{vacant:?}")?;
+    assert_eq!(rt; key.as_str(), "{3}");
+    Ok(())
+}
+
+#[test]
+fn values_are_looked_up_and_written(rt: HostRuntime) -> Result<(), Fail> {
+    let mut map = SortedVectorMap::try_from_iter(rt.alloc(), [(2u32, 20u32), (1, 10)])?;
+    assert!(rt; map.contains_key(&1));
+    assert!(rt; !map.contains_key(&3));
+    if let Some(value) = map.get_mut(&1) {
+        *value = 11;
+    }
+    assert_eq!(rt; map.get(&1).copied(), Some(11));
+    assert!(rt;
+        map.get_key_value(&2)
+            .is_some_and(|pair| *pair.0 == 2 && *pair.1 == 20)
+    );
+    assert!(rt; map.get_mut(&3).is_none());
+    let mut values = map.into_values();
+    assert_eq!(rt; values.next(), Some(11));
+    assert_eq!(rt; values.next_back(), Some(20));
+    assert_eq!(rt; values.next(), None);
+    Ok(())
+}
+
+#[test]
+fn an_occupied_entry_is_read_and_replaced(rt: HostRuntime) -> Result<(), Fail> {
+    let mut map = SortedVectorMap::try_from_iter(rt.alloc(), [(2u32, 20u32), (1, 10)])?;
+    if let crate::Entry::Occupied(mut taken) = map.entry(1) {
+        assert_eq!(rt; *taken.key(), 1);
+        assert_eq!(rt; taken.insert(11), 10);
+        *taken.get_mut() = 12;
+        assert_eq!(rt; *taken.get(), 12);
+        *taken.into_mut() = 13;
+    }
+    assert_eq!(rt; map.get(&1).copied(), Some(13));
+    if let crate::Entry::Occupied(taken) = map.entry(2) {
+        assert_eq!(rt; taken.remove(), 20);
+    }
+    if let crate::Entry::Vacant(free) = map.entry(2) {
+        assert_eq!(rt; *free.key(), 2);
+        assert_eq!(rt; free.into_key(), 2);
+    }
+    assert_eq!(rt; map.len(), 1);
+    Ok(())
+}

@@ -21,6 +21,7 @@ impl<'a, K: Ord, V> OccupiedEntry<'a, K, V> {
         self.pair().1
     }
 
+    // The stored pair.
     fn pair(&self) -> (&K, &V)
         ensures { slice_get self.now.map.now.pairs self.now.at ≡ Some (result.0.now, result.1.now) }
     {

@@ -25,7 +25,7 @@ impl<'a, K: Ord, V> VacantEntry<'a, K, V> {
     /// Puts `value` in at the given key, and answers it for writing.
     ///
     /// Where memory is short the map stays, and the key and `value` come back; that never happens where the map has
-    /// spare. The pairs of greater keys move.
+    /// spare. The pairs of greater keys move, in time for their number; no key is searched for.
     pub fn insert(self, value: V) -> Result<&'a mut V, Refused<(K, V)>>
         ensures* writes_back { sem 𝓛 (writes_through_if_ok K.row V.row (Vacant self.entry) result) }
         ensures value { IfOk result (λ lent. lent.now ≡ value) }

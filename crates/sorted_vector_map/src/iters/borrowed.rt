@@ -1,4 +1,4 @@
-//! The iterators of a map that is lent.
+//! The iterators of a map that is borrowed.
 ghost use Rattle.std.specs.Prelude.{◌≡◌, ◌^◌, ◌<◌, length, map};
 ghost use Rattle.std.specs.Iterator.{YieldsFirstBy, YieldsLastBy, item_count};
 ghost use Rattle.std.specs.Map.Iter.{deref, deref_pair};
