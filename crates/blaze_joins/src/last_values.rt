@@ -9,14 +9,14 @@ ghost use Rattle.blaze_joins.specs.LastValue.{last_value_at};
 use crate::map::RangeMapBlaze;
 use element_core::{Element, NoMemory};
 use range_map::Range;
-use range_map::sweep::{ActivePlaces, Bounds, Labelling, clone_at, sweep};
+use range_map::sweep::{Bounds, Labelling, LastPlace, clone_at, sweep};
 use std::alloc::Global;
 
 /// The labelling of each key by the value of the last pair that holds it.
 #[derive(Drop)]
 struct LastValues<'p, 'b, T: Element, V: Eq + Clone> {
     pairs: &'p [(Range<T>, V)],
-    active: ActivePlaces<'b, T>,
+    active: LastPlace<'b, T>,
     ghost clones: { (a b : V) → V.is_clone a b → V.eq b a ≡ true },
 }
 
@@ -48,7 +48,7 @@ pub(crate) fn last_values<T: Element, V: Eq + Clone + Drop>(
 {
     let bounds = Bounds::new(alloc, pairs)?;
     let cuts = bounds.cuts(alloc)?;
-    let active = bounds.active(alloc);
+    let active = bounds.last_place(alloc);
     let pairs = sweep(alloc, cuts.as_slice(), &mut LastValues { pairs, active })?;
     Ok(RangeMapBlaze { pairs })
 }

@@ -20,7 +20,7 @@ use Rattle.number_line.specs.Ranges.{lies_in, xor}
 use Rattle.range_map.specs.declared.bounds.Bound.{Bound}
 use Rattle.range_map.specs.Range.{in_numbers}
 use Rattle.range_map.specs.Sweep.{DoNotFallFrom, is_cut, ChangesAtCuts}
-use Rattle.range_map.specs.Bounds.{lies_at_from, lies_at, places_from, places_at, bound_in_numbers, bounds_in_numbers, is_passed, crossed, AreBounds, AreBoundsPushed, has_place, AreActive}
+use Rattle.range_map.specs.Bounds.{lies_at_from, lies_at, places_from, places_at, bound_in_numbers, bounds_in_numbers, is_passed, crossed, AreBounds, AreBoundsPushed, has_place, AscendFrom, AreActive}
 
 -- ---- the set of places
 
@@ -34,7 +34,7 @@ has_place_is (k ∷ keys) place = rw (is_at_is place k, has_place_is keys place)
 turned : (place other : ℕ) → (other == place) ≡ (place == other)
 turned place other = grind arith
 
-same_place : (place other : ℕ) → (place == other) ≡ true → place ≡ other
+pub same_place : (place other : ℕ) → (place == other) ≡ true → place ≡ other
 same_place place other h = grind arith
 
 module _ (old new : BTreeSet ℕ) (place : ℕ) (was now : Bool) (opposite : now ≡ not was) (there : contains nat_cmp old place ≡ was)
@@ -65,11 +65,6 @@ crossed_in old mid new place absent same updates other =
 
 -- ---- ascending places
 
--- the places ascend, from n on
-abbrev pub AscendFrom : ℕ → List ℕ → Type 0
-AscendFrom n [] = Unit {0}
-AscendFrom n (place ∷ rest) = (n ≤ place) × AscendFrom (suc place) rest
-
 less_is_below : (a b : ℕ) → nat_cmp a b ≡ Less → suc a ≤ b
 less_is_below a b h = grind arith
 
@@ -82,7 +77,7 @@ pub ascend_from_sorted : (keys : List ℕ) → IsStrictlySortedBy nat_cmp keys �
 ascend_from_sorted [] h = tt
 ascend_from_sorted (k ∷ keys) h = (omega arith, ascend_behind k keys h)
 
-absent_below : (n m : ℕ) (keys : List ℕ) → AscendFrom m keys → n < m → has_place keys n ≡ false
+pub absent_below : (n m : ℕ) (keys : List ℕ) → AscendFrom m keys → n < m → has_place keys n ≡ false
 absent_below n m [] a h = refl
 absent_below n m (k ∷ keys) a h =
     let other : (k == n) ≡ false = grind arith in
@@ -328,10 +323,10 @@ module _ (greatest : ℤ) (ranges : List (ℤ × ℤ)) (n : ℤ) where
       regroup false h c l e = refl
 
   -- where no bound is left up to n, the places are those at n
-  pub active_places : (places : List ℕ) (rest : List (ℤ × ℕ)) → IsStrictlySortedBy nat_cmp places → n ≤ℤ greatest → ((place : ℕ) → crossed rest place n ≡ false)
+  pub active_places : (places : List ℕ) (rest : List (ℤ × ℕ)) → AscendFrom 0 places → n ≤ℤ greatest → ((place : ℕ) → crossed rest place n ≡ false)
       → AreActive greatest ranges n (record { places = places; rest = rest }) → places ≡ places_at ranges n
   active_places places rest ascending high none active =
-      only_places 0 ranges n places (ascend_from_sorted places ascending) (λ place.
+      only_places 0 ranges n places ascending (λ place.
       xor_false (has_place places place) ∙ (ap (xor (has_place places place)) (sym (none place)) ∙ active place n (omega (arith, ints)) high))
     where
       xor_false : (b : Bool) → b ≡ xor b false

@@ -9,3 +9,4 @@ pub mod DividedLemmas
 pub mod GrowthLemmas
 pub mod SweepLemmas
 pub mod BoundLemmas
+pub mod OddLemmas

@@ -1,5 +1,5 @@
 -- Several ranges, known by their places from 0 on: where each begins and ends, and which of them hold a number.
-use Rattle.std.specs.Prelude.{◌≡◌, ℕ, suc, ◌==◌, ℤ, ◌≤ℤ◌, Bool, false, ◌&&◌, int_le, if◌then◌else◌, List, [], ◌∷◌, map}
+use Rattle.std.specs.Prelude.{◌<◌, ◌≤◌, ◌≡◌, ℕ, suc, ◌==◌, ℤ, ◌≤ℤ◌, Bool, false, ◌&&◌, int_le, if◌then◌else◌, List, [], ◌∷◌, map}
 use Rattle.std.specs.List.{list_any}
 use Rattle.element_core.specs.Numbering.{Numbering}
 use Rattle.number_line.specs.Ranges.{lies_in, xor}
@@ -49,6 +49,21 @@ AreBounds greatest ranges bounds = (place : ℕ) (x : ℤ) → x ≤ℤ greatest
 abbrev pub AreBoundsPushed : ℤ → List (ℤ × ℕ) → ℤ × ℤ → ℕ → List (ℤ × ℕ) → Type 0
 AreBoundsPushed greatest old r place new =
     (other : ℕ) (x : ℤ) → x ≤ℤ greatest → crossed new other x ≡ xor (crossed old other x) ((place == other) && lies_in r x)
+
+-- whether an odd count of the places is that place
+abbrev pub is_odd : List ℕ → ℕ → Bool
+is_odd [] place = false
+is_odd (other ∷ rest) place = xor (other == place) (is_odd rest place)
+
+-- the places ascend, from n on
+abbrev pub AscendFrom : ℕ → List ℕ → Type 0
+AscendFrom n [] = Unit {0}
+AscendFrom n (place ∷ rest) = (n ≤ place) × AscendFrom (suc place) rest
+
+-- and each is below m
+abbrev pub AscendBelow : ℕ → ℕ → List ℕ → Type 0
+AscendBelow n m [] = Unit {0}
+AscendBelow n m (place ∷ rest) = (n ≤ place) × (place < m) × AscendBelow (suc place) m rest
 
 -- the places of the ranges that hold a number, and the bounds still to come
 pub record Active : Type 0 where

@@ -9,6 +9,7 @@ ghost use Rattle.range_map.specs.Sweep.{DoNotFallFrom, numbers_of};
 ghost use Rattle.number_line.specs.Ranges.{xor};
 ghost use Rattle.range_map.specs.Bounds.{ranges_of, places_at, bounds_in_numbers, AreBounds, AreBoundsPushed, has_place, AreActive};
 
+use crate::active::ActivePlaces;
 use crate::range::Range;
 use element_core::{Element, NoMemory, compare, is_below};
 use std::alloc::Global;
@@ -18,8 +19,8 @@ use std::marker::Model;
 /// The value at which the range at `place` begins, or the value behind its end.
 #[derive(Clone, Copy, Debug)]
 pub struct Bound<T: Element> {
-    at: T,
-    place: usize,
+    pub(crate) at: T,
+    pub(crate) place: usize,
 }
 
 /// Where several ranges begin and end, ascending. Ranges are known by their places, which count from 0.
@@ -94,20 +95,30 @@ impl<T: Element> Bounds<T> {
         ensures { (ranges : List (ℤ × ℤ)) (n : ℤ) → AreBounds T.numbers.greatest ranges self.now → AreActive T.numbers.greatest ranges n result }
     {
         ActivePlaces {
+            places: Vec::new(alloc),
+            rest: self.bounds.as_slice(),
+        }
+    }
+
+    /// The greatest place of the ranges that hold a number, before the least one. Takes O(1) time and no memory.
+    pub fn last_place(&self, alloc: Global) -> LastPlace<'_, T>
+        ensures { (ranges : List (ℤ × ℤ)) (n : ℤ) → AreBounds T.numbers.greatest ranges self.now → AreActive T.numbers.greatest ranges n result }
+    {
+        LastPlace {
             places: BTreeSet::new(alloc),
             rest: self.bounds.as_slice(),
         }
     }
 }
 
-/// The places of the ranges that hold the value last entered.
+/// The places of the ranges that hold the value last entered, of which the greatest can be asked.
 #[derive(Drop)]
-pub struct ActivePlaces<'a, T: Element> {
+pub struct LastPlace<'a, T: Element> {
     places: BTreeSet<usize>,
     rest: &'a [Bound<T>],
 }
 
-impl<'a, T: Element> Model for ActivePlaces<'a, T> {
+impl<'a, T: Element> Model for LastPlace<'a, T> {
     ghost use Rattle.std.specs.List.Sorted.{IsStrictlySortedBy};
     ghost use Rattle.std.specs.Ordering.{nat_cmp};
     ghost use Rattle.std.specs.Prelude.{map};
@@ -134,7 +145,7 @@ fn cross(places: &mut BTreeSet<usize>, place: usize) -> Result<(), NoMemory>
     Ok(())
 }
 
-impl<'a, T: Element> ActivePlaces<'a, T> {
+impl<'a, T: Element> LastPlace<'a, T> {
     /// Goes on to `x`, which must not be below what was entered before. Takes O(log n) time for each bound that is
     /// passed, of n pairs. After `NoMemory` the same value, or a greater one, may be entered still.
     pub fn enter(&mut self, x: T) -> Result<(), NoMemory>
@@ -150,13 +161,6 @@ impl<'a, T: Element> ActivePlaces<'a, T> {
             self.rest = behind;
         }
         Ok(())
-    }
-
-    /// The places, ascending. Takes O(1) time and no memory.
-    pub fn places(&self) -> &BTreeSet<usize>
-        ensures { result.now.keys ≡ self.now.places }
-    {
-        &self.places
     }
 
     /// The greatest of the places, or `None` where there is none. Takes O(log n) time and no memory.

@@ -2,6 +2,7 @@
 //! value each.
 #![tactic(auto)]
 
+mod active;
 mod bounds;
 #[cfg(test)]
 mod callers;

@@ -7,7 +7,8 @@ ghost use Rattle.range_map.specs.Range.{in_numbers};
 ghost use Rattle.range_map.specs.Valued.{pairs_in_numbers, AreValuedRanges, IsMap};
 ghost use Rattle.range_map.specs.Sweep.{DoNotFallFrom, numbers_of, ChangesAtCuts, EndBelow, IsLabelled, IsSwept};
 
-pub use crate::bounds::{ActivePlaces, Bound, Bounds};
+pub use crate::active::ActivePlaces;
+pub use crate::bounds::{Bound, Bounds, LastPlace};
 pub use crate::growing::push_value;
 use crate::range::Range;
 use element_core::{Element, NoMemory, is_below};

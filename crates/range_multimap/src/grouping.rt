@@ -26,7 +26,7 @@ impl<T: Element, V: Eq + Clone + Drop> Labelling<T, Group<V>> for Grouping<'_, '
     ghost may_enter = { λ labels x. AreActive T.numbers.greatest (ranges_of (pairs_in_numbers T.numbers labels.pairs.now)) x labels.active };
 
     fn enter(&mut self, alloc: Global, x: T) -> Result<Option<Group<V>>, NoMemory> {
-        self.active.enter(x)?;
+        self.active.enter(alloc, x)?;
         let places = self.active.places();
         let mut values = Vec::with_capacity(alloc, places.len())?;
         for place in places {

@@ -4,8 +4,8 @@ use Rattle.std.proofs.lemmas.Int.{ints}
 use Rattle.std.proofs.lemmas.List.{nil_from_length}
 use Rattle.range_map.specs.Sweep.{DoNotFallFrom}
 use Rattle.range_map.specs.Bounds.{bounds_in_numbers, bound_in_numbers}
-use Rattle.range_map.proofs.BoundLemmas.{active_step, active_places, do_not_fall-lower, crossed_before}
-use Rattle.range_map.proofs.bounds.ActivePlaces.enter.Goals as goal
+use Rattle.range_map.proofs.BoundLemmas.{active_step, active_places, ascend_from_sorted, do_not_fall-lower, crossed_before}
+use Rattle.range_map.proofs.bounds.LastPlace.enter.Goals as goal
 
 pub loop-bound-preserved : goal.loop-bound-preserved
 loop-bound-preserved g c =
@@ -31,11 +31,11 @@ returns-then-is_below-clause-entered g c =
     let bound = c.in-Some.bound.now in
     let behind = c.in-Some.behind.now in
     let d : DoNotFallFrom numbers numbers.least (map (λ b. b.at) (bound ∷ behind)) = rw c.in-Some.ensures.cases.0 at c.loop-bound.invariant.in_order in
-    λ ranges was. active_places _ ranges _ _ _ c.loop-bound.invariant.ascending c.in_type.ensures.high
+    λ ranges was. active_places _ ranges _ _ _ (ascend_from_sorted _ c.loop-bound.invariant.ascending) c.in_type.ensures.high
     (λ place. rw c.in-Some.ensures.cases.0 (crossed_before numbers (numbers.number bound.at) _ (bound ∷ behind) place (d.0, omega (arith, ints), d.2, d.3) c.if-is_below.ensures))
     (c.loop-bound.invariant.active ranges was)
 
 pub returns-in_default-clause-entered : goal.returns-in_default-clause-entered
 returns-in_default-clause-entered g c =
-    λ ranges was. active_places _ ranges _ _ _ c.loop-bound.invariant.ascending c.in_type.ensures.high
+    λ ranges was. active_places _ ranges _ _ _ (ascend_from_sorted _ c.loop-bound.invariant.ascending) c.in_type.ensures.high
     (λ place. rw (nil_from_length _ c.in_default.ensures.cases) refl) (c.loop-bound.invariant.active ranges was)

@@ -4,7 +4,7 @@ use Rattle.std.specs.List.Sorted.{IsStrictlySortedBy}
 use Rattle.std.specs.Ordering.{nat_cmp}
 use Rattle.range_map.specs.Sweep.{DoNotFallFrom}
 use Rattle.range_map.specs.Bounds.{AreActive, bounds_in_numbers}
-use Rattle.range_map.proofs.bounds.ActivePlaces.enter.Given as goal
+use Rattle.range_map.proofs.bounds.LastPlace.enter.Given as goal
 
 abbrev pub invariant-loop-bound : goal.invariant-loop-bound
 invariant-loop-bound g l = record {
