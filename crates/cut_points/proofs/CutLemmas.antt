@@ -8,6 +8,7 @@ use Rattle.std.proofs.lemmas.List.Sums.{sum_by-cons}
 use Rattle.number_line.specs.Ranges.{holds, IsCanonical, xor}
 use Rattle.ordered_lists.specs.Lists.{has, find}
 use Rattle.number_line.proofs.RangeLemmas.{first_holds, rest_holds, below_start}
+use Rattle.range_map.proofs.BoundLemmas.{xor_false}
 use Rattle.cut_points.specs.Cuts.{IsAscending, cuts, from_cuts, parity, changes}
 
 -- ---- tests
@@ -194,10 +195,6 @@ xor_back false true true e = sym e
 xor_back false true false e = refl
 xor_back false false true e = e
 xor_back false false false e = refl
-
-pub xor_false : (a : Bool) → xor a false ≡ a
-xor_false true = refl
-xor_false false = refl
 
 -- ascending numbers at which f changes, and no others, have the parity f
 pub parity_of_changes : (lo hi : ℤ) (cs : List ℤ) (f : ℤ → Bool) → IsAscending lo hi cs

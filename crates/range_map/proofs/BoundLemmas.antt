@@ -22,6 +22,10 @@ use Rattle.range_map.specs.Range.{in_numbers}
 use Rattle.range_map.specs.Sweep.{DoNotFallFrom, is_cut, ChangesAtCuts}
 use Rattle.range_map.specs.Bounds.{lies_at_from, lies_at, places_from, places_at, bound_in_numbers, bounds_in_numbers, is_passed, crossed, AreBounds, AreBoundsPushed, has_place, AscendFrom, AreActive}
 
+pub xor_false : (b : Bool) → xor b false ≡ b
+xor_false true = refl
+xor_false false = refl
+
 -- ---- the set of places
 
 is_at_is : (q k : ℕ) → is_at (nat_cmp q) k ≡ (k == q)
@@ -255,40 +259,30 @@ pub bounds_step : (greatest : ℤ) (n m : ℕ) (r : ℤ × ℤ) (left rest all :
 bounds_step greatest n m r left rest all old new next is pushed told place x high =
     rw (next, pushed place x high) (by_case (n == place) refl ∙ (rw is at (told place x high)))
   where
-    apart : (a b : Bool) → xor (xor a b) false ≡ xor a b
-    apart true true = refl
-    apart true false = refl
-    apart false true = refl
-    apart false false = refl
-
     by_case : (b : Bool) → (n == place) ≡ b
         → xor (xor (crossed old place x) (b && lies_in r x)) (lies_at_from (suc n) rest place x)
         ≡ xor (crossed old place x) (if b then lies_in r x else lies_at_from (suc n) rest place x)
     by_case true e =
         let one : n ≡ place = same_place n place e in
-        rw (← one, lies_at_earlier n (suc n) rest x (omega arith)) (apart (crossed old n x) (lies_in r x))
+        rw (← one, lies_at_earlier n (suc n) rest x (omega arith)) (xor_false (xor (crossed old n x) (lies_in r x)))
     by_case false e = ap (λ b. xor b (lies_at_from (suc n) rest place x)) (xor_false (crossed old place x))
-      where
-        xor_false : (b : Bool) → xor b false ≡ b
-        xor_false true = refl
-        xor_false false = refl
 
-odd : ℕ → Bool
+-- whether a number is odd
+abbrev pub odd : ℕ → Bool
 odd zero = false
 odd (suc n) = not (odd n)
+
+pub one_more : (b : Bool) (n : ℕ) → xor b (odd n) ≡ odd (cond b 1 0 + n)
+one_more true n = let e : 1 + n ≡ suc n = omega arith in rw e refl
+one_more false n = let e : 0 + n ≡ n = omega arith in rw e refl
 
 module _ (place : ℕ) (x : ℤ) where
   abbrev passes : ℤ × ℕ → ℕ
   passes bound = cond (is_passed place x bound) 1 0
 
   crossed_is_odd : (bounds : List (ℤ × ℕ)) → crossed bounds place x ≡ odd (sum_by passes bounds)
-  unfolding odd
   crossed_is_odd [] = refl
   crossed_is_odd (bound ∷ rest) = rw (sum_by-cons passes bound rest, crossed_is_odd rest) (one_more (is_passed place x bound) (sum_by passes rest))
-    where
-      one_more : (b : Bool) (n : ℕ) → xor b (odd n) ≡ odd (cond b 1 0 + n)
-      one_more true n = let e : 1 + n ≡ suc n = omega arith in rw e
-      one_more false n = let e : 0 + n ≡ n = omega arith in rw e
 
   pub crossed_permuted : (old new : List (ℤ × ℕ)) → IsPermutation old new → crossed new place x ≡ crossed old place x
   crossed_permuted old new moved = crossed_is_odd new ∙ (ap odd (sum_by-IsPermutation passes old new moved) ∙ sym (crossed_is_odd old))
@@ -299,22 +293,21 @@ pub bounds_sorted : {T : Type 0} (numbers : Numbering T) (all : List (ℤ × ℤ
     → AreBounds numbers.greatest all (bounds_in_numbers numbers new)
 bounds_sorted numbers all n left old new none moved told place x high =
     crossed_permuted place x (bounds_in_numbers numbers old) (bounds_in_numbers numbers new) (IsPermutation-map (bound_in_numbers numbers) old new moved)
-    ∙ (xor_false (crossed (bounds_in_numbers numbers old) place x) ∙ (rw none at (told place x high)))
-  where
-    xor_false : (b : Bool) → b ≡ xor b false
-    xor_false true = refl
-    xor_false false = refl
+    ∙ (sym (xor_false (crossed (bounds_in_numbers numbers old) place x)) ∙ (rw none at (told place x high)))
 
 -- ---- going on to a number
 
 module _ (greatest : ℤ) (ranges : List (ℤ × ℤ)) (n : ℤ) where
+  -- which places are told so far, and the bounds still to come, tell which ranges hold each number from n on
+  abbrev pub AreTold : (ℕ → Bool) → List (ℤ × ℕ) → Type 0
+  AreTold told rest = (place : ℕ) (x : ℤ) → n ≤ℤ x → x ≤ℤ greatest → xor (told place) (crossed rest place x) ≡ lies_at ranges place x
+
   -- a bound that is passed
-  pub active_step : (places new : List ℕ) (bound : ℤ × ℕ) (left rest : List (ℤ × ℕ)) → left ≡ bound ∷ rest → bound.0 ≤ℤ n
-      → ((other : ℕ) → has_place new other ≡ xor (bound.1 == other) (has_place places other))
-      → AreActive greatest ranges n (record { places = places; rest = left }) → AreActive greatest ranges n (record { places = new; rest = rest })
-  active_step places new bound left rest is passed over active place x low high =
+  pub bound_passed : (old new : ℕ → Bool) (bound : ℤ × ℕ) (left rest : List (ℤ × ℕ)) → left ≡ bound ∷ rest → bound.0 ≤ℤ n
+      → ((other : ℕ) → new other ≡ xor (bound.1 == other) (old other)) → AreTold old left → AreTold new rest
+  bound_passed old new bound left rest is passed over told place x low high =
       let at_most : int_le bound.0 x ≡ true = grind (arith, ints) in
-      rw (over place) (regroup (bound.1 == place) (has_place places place) (crossed rest place x) (int_le bound.0 x) at_most ∙ (rw is at (active place x low high)))
+      rw (over place) (regroup (bound.1 == place) (old place) (crossed rest place x) (int_le bound.0 x) at_most ∙ (rw is at (told place x low high)))
     where
       regroup : (b h c l : Bool) → l ≡ true → xor (xor b h) c ≡ xor h (xor (b && l) c)
       regroup true true true l e = rw e refl
@@ -327,11 +320,7 @@ module _ (greatest : ℤ) (ranges : List (ℤ × ℤ)) (n : ℤ) where
       → AreActive greatest ranges n (record { places = places; rest = rest }) → places ≡ places_at ranges n
   active_places places rest ascending high none active =
       only_places 0 ranges n places ascending (λ place.
-      xor_false (has_place places place) ∙ (ap (xor (has_place places place)) (sym (none place)) ∙ active place n (omega (arith, ints)) high))
-    where
-      xor_false : (b : Bool) → b ≡ xor b false
-      xor_false true = refl
-      xor_false false = refl
+      sym (xor_false (has_place places place)) ∙ (ap (xor (has_place places place)) (sym (none place)) ∙ active place n (omega (arith, ints)) high))
 
 module _ {T : Type 0} (numbers : Numbering T) where
   pub do_not_fall-lower : (n m : ℤ) (list : List T) → n ≤ℤ m → DoNotFallFrom numbers m list → DoNotFallFrom numbers n list

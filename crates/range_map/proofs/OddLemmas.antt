@@ -1,15 +1,14 @@
 -- The places that stand in a list an odd number of times.
-use Rattle.std.proofs.Common.{◌≡◌, ℕ, zero, suc, ◌+◌, ◌<◌, ◌≤◌, List, [], ◌∷◌, ◌++◌, refl, ap, arith, sym, ◌∙◌}
-use Rattle.std.specs.Prelude.{◌==◌, ℤ, ◌≤ℤ◌, Bool, true, false, not, ◌&&◌, ◌||◌, int_le, cond}
+use Rattle.std.proofs.Common.{◌≡◌, ℕ, suc, ◌+◌, ◌<◌, ◌≤◌, List, [], ◌∷◌, ◌++◌, refl, ap, arith, sym, ◌∙◌}
+use Rattle.std.specs.Prelude.{◌==◌, ℤ, ◌≤ℤ◌, Bool, true, false, ◌||◌, cond}
 use Rattle.std.specs.List.{sum_by}
 use Rattle.std.specs.List.Sorted.{IsPermutation, IsSorted}
 use Rattle.std.specs.Ordering.{nat_cmp}
-use Rattle.std.proofs.lemmas.Int.{ints}
 use Rattle.std.proofs.lemmas.List.Sums.{sum_by-cons}
 use Rattle.std.proofs.lemmas.List.Sorted.{sum_by-IsPermutation}
 use Rattle.number_line.specs.Ranges.{xor}
-use Rattle.range_map.specs.Bounds.{lies_at, crossed, has_place, is_odd, AscendFrom, AscendBelow, AreActive}
-use Rattle.range_map.proofs.BoundLemmas.{same_place, absent_below}
+use Rattle.range_map.specs.Bounds.{has_place, is_odd, AscendFrom, AscendBelow, AreActive}
+use Rattle.range_map.proofs.BoundLemmas.{xor_false, odd, one_more, same_place, absent_below, AreTold, bound_passed}
 
 swap : (a b c : Bool) → xor a (xor b c) ≡ xor b (xor a c)
 swap true true c = refl
@@ -34,24 +33,16 @@ is_odd_once n (k ∷ rest) a place = by_case (k == place) refl (is_odd_once (suc
 
 -- ---- whatever their order
 
-abbrev alternates : ℕ → Bool
-alternates zero = false
-alternates (suc n) = not (alternates n)
-
 module _ (place : ℕ) where
   abbrev stands : ℕ → ℕ
   stands other = cond (other == place) 1 0
 
-  is_odd_sum : (places : List ℕ) → is_odd places place ≡ alternates (sum_by stands places)
+  is_odd_sum : (places : List ℕ) → is_odd places place ≡ odd (sum_by stands places)
   is_odd_sum [] = refl
   is_odd_sum (other ∷ rest) = rw (sum_by-cons stands other rest, is_odd_sum rest) (one_more (other == place) (sum_by stands rest))
-    where
-      one_more : (b : Bool) (n : ℕ) → xor b (alternates n) ≡ alternates (cond b 1 0 + n)
-      one_more true n = let e : 1 + n ≡ suc n = omega arith in rw e refl
-      one_more false n = let e : 0 + n ≡ n = omega arith in rw e refl
 
   pub is_odd_permuted : (old new : List ℕ) → IsPermutation old new → is_odd new place ≡ is_odd old place
-  is_odd_permuted old new moved = is_odd_sum new ∙ (ap alternates (sum_by-IsPermutation stands old new moved) ∙ sym (is_odd_sum old))
+  is_odd_permuted old new moved = is_odd_sum new ∙ (ap odd (sum_by-IsPermutation stands old new moved) ∙ sym (is_odd_sum old))
 
 -- ---- the last of ascending places
 
@@ -144,37 +135,21 @@ module _ (all kept left rest : List ℕ) (place : ℕ) (is : left ≡ place ∷ 
       regroup false h r = refl
 
 pub kept_end : (all kept left : List ℕ) → left ≡ [] → AreKept all kept left → AscendFrom 0 kept × ((place : ℕ) → has_place kept place ≡ is_odd all place)
-kept_end all kept left none k = (ascend_below 0 (k.0 + 1) kept k.1, λ place. xor_false (has_place kept place) ∙ (rw none at (k.3 place)))
-  where
-    xor_false : (b : Bool) → b ≡ xor b false
-    xor_false true = refl
-    xor_false false = refl
+kept_end all kept left none k = (ascend_below 0 (k.0 + 1) kept k.1, λ place. sym (xor_false (has_place kept place)) ∙ (rw none at (k.3 place)))
 
 -- ---- going on to a number
 
--- the places passed so far and the bounds still to come tell which ranges hold each later number
-abbrev pub AreTold : ℤ → List (ℤ × ℤ) → ℤ → List ℕ → List (ℤ × ℕ) → Type 0
-AreTold greatest ranges n all rest = (place : ℕ) (x : ℤ) → n ≤ℤ x → x ≤ℤ greatest → xor (is_odd all place) (crossed rest place x) ≡ lies_at ranges place x
-
 module _ (greatest : ℤ) (ranges : List (ℤ × ℤ)) (n : ℤ) where
-  pub told_start : (places all : List ℕ) (rest : List (ℤ × ℕ)) → all ≡ places → AscendFrom 0 places → AreActive greatest ranges n (record { places = places; rest = rest }) → AreTold greatest ranges n all rest
+  pub told_start : (places all : List ℕ) (rest : List (ℤ × ℕ)) → all ≡ places → AscendFrom 0 places → AreActive greatest ranges n (record { places = places; rest = rest }) → AreTold greatest ranges n (is_odd all) rest
   told_start places all rest same ascending active place x low high = rw (same, is_odd_once 0 places ascending place) (active place x low high)
 
   -- a bound that is passed
   pub told_step : (all new : List ℕ) (bound : ℤ × ℕ) (left rest : List (ℤ × ℕ)) → left ≡ bound ∷ rest → bound.0 ≤ℤ n → new ≡ all ++ bound.1 ∷ []
-      → AreTold greatest ranges n all left → AreTold greatest ranges n new rest
-  told_step all new bound left rest is passed pushed told place x low high =
-      let at_most : int_le bound.0 x ≡ true = grind (arith, ints) in
-      rw (pushed, is_odd_push all bound.1 place)
-      (regroup (bound.1 == place) (is_odd all place) (crossed rest place x) (int_le bound.0 x) at_most ∙ (rw is at (told place x low high)))
-    where
-      regroup : (b h c l : Bool) → l ≡ true → xor (xor b h) c ≡ xor h (xor (b && l) c)
-      regroup true true true l e = rw e refl
-      regroup true true false l e = rw e refl
-      regroup true false c l e = rw e refl
-      regroup false h c l e = refl
+      → AreTold greatest ranges n (is_odd all) left → AreTold greatest ranges n (is_odd new) rest
+  told_step all new bound left rest is passed pushed =
+      bound_passed greatest ranges n (is_odd all) (is_odd new) bound left rest is passed (λ other. ap (λ l. is_odd l other) pushed ∙ is_odd_push all bound.1 other)
 
   -- those that stand there an odd number of times are the active ones
   pub told_end : (all sorted kept : List ℕ) (rest : List (ℤ × ℕ)) → IsPermutation all sorted → ((place : ℕ) → has_place kept place ≡ is_odd sorted place)
-      → AreTold greatest ranges n all rest → AreActive greatest ranges n (record { places = kept; rest = rest })
+      → AreTold greatest ranges n (is_odd all) rest → AreActive greatest ranges n (record { places = kept; rest = rest })
   told_end all sorted kept rest moved odd told place x low high = rw (odd place, is_odd_permuted place all sorted moved) (told place x low high)

@@ -60,8 +60,8 @@ fn odd_ones(alloc: Global, sorted: &[usize]) -> Result<Vec<usize>, NoMemory>
 }
 
 impl<'a, T: Element> ActivePlaces<'a, T> {
-    /// Goes on to `x`, which must not be below what was entered before. Takes O(n log n) time and O(n) memory for n
-    /// places and bounds that are passed. After `NoMemory` everything is as before.
+    /// Goes on to `x`, which must not be below what was entered before. Takes O(n + m log m) time and O(n + m) memory
+    /// for n places and m bounds that are passed. After `NoMemory` everything is as before.
     pub fn enter(&mut self, alloc: Global, x: T) -> Result<(), NoMemory>
         ensures goes_on { OnOk result ((ranges : List (ℤ × ℤ)) (n : ℤ) → AreActive T.numbers.greatest ranges (T.numbers.number x) self.old → T.numbers.number x ≤ℤ n → AreActive T.numbers.greatest ranges n self.new) }
         ensures entered { OnOk result ((ranges : List (ℤ × ℤ)) → AreActive T.numbers.greatest ranges (T.numbers.number x) self.old → self.new.places ≡ places_at ranges (T.numbers.number x)) }

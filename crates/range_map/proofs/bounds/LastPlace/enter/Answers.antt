@@ -3,8 +3,8 @@ use Rattle.std.specs.Prelude.{map}
 use Rattle.std.proofs.lemmas.Int.{ints}
 use Rattle.std.proofs.lemmas.List.{nil_from_length}
 use Rattle.range_map.specs.Sweep.{DoNotFallFrom}
-use Rattle.range_map.specs.Bounds.{bounds_in_numbers, bound_in_numbers}
-use Rattle.range_map.proofs.BoundLemmas.{active_step, active_places, ascend_from_sorted, do_not_fall-lower, crossed_before}
+use Rattle.range_map.specs.Bounds.{bounds_in_numbers, bound_in_numbers, has_place}
+use Rattle.range_map.proofs.BoundLemmas.{bound_passed, active_places, ascend_from_sorted, do_not_fall-lower, crossed_before}
 use Rattle.range_map.proofs.bounds.LastPlace.enter.Goals as goal
 
 pub loop-bound-preserved : goal.loop-bound-preserved
@@ -16,7 +16,7 @@ loop-bound-preserved g c =
     record {
       in_order = do_not_fall-lower numbers _ _ _ d.1 d.3;
       ascending = c.cross.ensures.ascending;
-      active = λ ranges was. active_step _ ranges _ _ _ (bound_in_numbers numbers bound) _ (bounds_in_numbers numbers behind)
+      active = λ ranges was. bound_passed _ ranges _ (has_place c.loop-bound.self-inside.places.keys) (has_place c.cross.new.places.keys) (bound_in_numbers numbers bound) _ (bounds_in_numbers numbers behind)
           (ap (bounds_in_numbers numbers) c.in-Some.ensures.cases.0) c.if-is_below.ensures c.in_ok-cross.ensures.crossed (c.loop-bound.invariant.active ranges was);
     }
 
