@@ -1,1 +1,6 @@
 pub mod LastValue
+pub mod Filled
+pub mod Keys
+pub mod PieceView
+pub mod Joins
+pub mod Laws

@@ -1,10 +1,12 @@
 //! Maps without gaps.
-ghost use Rattle.std.specs.Prelude.{◌≡◌, ℤ, pos, ◌-ℤ◌, ◌≤ℤ◌, Option, Some, None, IfOk, OnOk, true};
+ghost use Rattle.std.specs.Prelude.{◌≡◌, ℤ, pos, ◌-ℤ◌, ◌≤ℤ◌, ◌<ℤ◌, Option, Some, None, IfOk, OnOk, true};
 ghost use Rattle.std.specs.Option.{option_eq};
+ghost use Rattle.number_line.specs.Merged.{FirstStays};
 ghost use Rattle.number_line.specs.Valued.{value_at, IsCanonicalMap, HasValues};
 ghost use Rattle.range_map.specs.Range.{in_numbers};
 ghost use Rattle.range_map.specs.Valued.{pairs_in_numbers, IsMap};
 ghost use Rattle.range_map.specs.Sweep.{EndBelow, IsLabelled};
+ghost use Rattle.blaze_joins.specs.Filled.{IsOptionClone};
 
 use crate::map::RangeMapBlaze;
 use element_core::{Element, NoMemory, is_below};
@@ -13,7 +15,7 @@ use range_map::sweep::push_value;
 use std::alloc::Global;
 
 /// Gives `None` to the keys from `start` to below `range`, if there are any.
-fn push_gap<T: Element, V: Eq + Drop>(
+fn push_gap<T: Element, V: Eq + Clone + Drop>(
     filled: &mut Vec<(Range<T>, Option<V>)>,
     start: T,
     range: &Range<T>,
@@ -23,6 +25,10 @@ fn push_gap<T: Element, V: Eq + Drop>(
     requires no_later { T.numbers.number start ≤ℤ T.numbers.number range.now.0 }
     ensures map { OnOk result (IsMap T.numbers (option_eq V.eq) filled.new.items) }
     ensures labelled { OnOk result (IsLabelled (option_eq V.eq) (pairs_in_numbers T.numbers filled.old.items) (T.numbers.number start, T.numbers.number range.now.0 -ℤ pos 1) (Some None) (pairs_in_numbers T.numbers filled.new.items)) }
+    ensures first_stays { OnOk result ((due : ℤ → Option (Option V))
+        → (T.numbers.number start <ℤ T.numbers.number range.now.0 → due (T.numbers.number start) ≡ Some None)
+        → FirstStays (IsOptionClone V.is_clone) due (pairs_in_numbers T.numbers filled.old.items)
+        → FirstStays (IsOptionClone V.is_clone) due (pairs_in_numbers T.numbers filled.new.items)) }
 {
     start.in_type();
     if !is_below(start, range.start()) {
@@ -30,17 +36,21 @@ fn push_gap<T: Element, V: Eq + Drop>(
     }
     match range.start().predecessor() {
         None => Ok(()),
-        Some(end) => push_value(filled, Range::new(start, end), None),
+        Some(end) => {
+            push_value(filled, Range::new(start, end), None)?;
+            Ok(())
+        }
     }
 }
 
 impl<T: Element, V: Eq + Clone + Drop> RangeMapBlaze<T, V> {
-    /// The map in which every key has a value: `Some` of its value here, or `None` where it has none. Takes O(n) time
-    /// for n ranges.
+    /// The map in which every key has a value: `Some` of a clone of its value here, or `None` where it has none. Takes
+    /// O(n) time for n ranges, beside the clones: one for each range.
     pub fn fill_gaps(&self, alloc: Global) -> Result<RangeMapBlaze<T, Option<V>>, NoMemory>
         requires { (a b : V) → V.is_clone a b → V.eq b a ≡ true }
         ensures canonical { IfOk result (IsCanonicalMap (option_eq V.eq) T.numbers.least T.numbers.greatest) }
         ensures values { IfOk result (HasValues (option_eq V.eq) (λ x. Some (value_at self.now x)) T.numbers.least T.numbers.greatest) }
+        ensures first_stays { IfOk result (FirstStays (IsOptionClone V.is_clone) (λ x. Some (value_at self.now x))) }
     {
         let mut filled = Vec::with_capacity(
             alloc,

@@ -69,3 +69,10 @@ pub fn is_below<T: Element>(a: T, b: T) -> bool
     b.in_type();
     matches!(a.cmp(&b), Ordering::Less)
 }
+
+/// Whether the number of `a` is at most that of `b`. Generic code asks this in place of `a <= b`.
+pub fn is_at_most<T: Element>(a: T, b: T) -> bool
+    ensures { MatchBool result (T.numbers.number a ≤ℤ T.numbers.number b) (T.numbers.number b <ℤ T.numbers.number a) }
+{
+    !is_below(b, a)
+}

@@ -6,7 +6,7 @@ mod element;
 mod integers;
 mod memory;
 
-pub use element::{Element, compare, is_below};
+pub use element::{Element, compare, is_at_most, is_below};
 pub use memory::{NoMemory, Refused};
 
 #[cfg(test)]

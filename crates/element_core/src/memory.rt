@@ -43,3 +43,11 @@ impl Error for NoMemory {}
 pub struct Refused<T> {
     pub given: T,
 }
+
+impl<T: Drop> From<Refused<T>> for NoMemory {
+    ghost from_gives = { λ _ _. ⊤ };
+
+    fn from(_refused: Refused<T>) -> NoMemory {
+        NoMemory
+    }
+}

@@ -1,5 +1,5 @@
 //! What no contract shows: each type's calls at its two ends, through the trait.
-use crate::{Element, NoMemory, Refused, compare, is_below};
+use crate::{Element, NoMemory, Refused, compare, is_at_most, is_below};
 use std::cmp::Ordering;
 use std::process::Abort;
 use std::test::Fail;
@@ -11,6 +11,7 @@ fn stops_at_both_ends<T: Element>(rt: &impl Abort, steps: usize) {
     assert!(rt; least.predecessor().is_none() && greatest.successor().is_none());
     assert!(rt; compare(least, greatest) == Ordering::Less);
     assert!(rt; is_below(least, greatest) && !is_below(greatest, least) && !is_below(least, least));
+    assert!(rt; is_at_most(least, greatest) && !is_at_most(greatest, least) && is_at_most(least, least));
     match (least.successor(), greatest.predecessor()) {
         (Some(second), Some(last_but_one)) => {
             assert!(rt; is_below(least, second) && is_below(last_but_one, greatest));
@@ -47,4 +48,20 @@ fn want_of_memory_is_written(rt: HostRuntime) -> Result<(), Fail> {
     let text = format!(in alloc; "{refused}")?;
     assert!(&rt; text.as_str().len() > 0 && refused.given == 7);
     Ok(())
+}
+
+/// Refuses the number, as a call that takes it over would.
+fn refuse(number: u8) -> Result<(), Refused<u8>> {
+    Err(Refused { given: number })
+}
+
+/// Asks for memory through a call that hands its argument back.
+fn ask(number: u8) -> Result<(), NoMemory> {
+    refuse(number)?;
+    Ok(())
+}
+
+#[test]
+fn a_refused_argument_is_want_of_memory(rt: HostRuntime) {
+    assert!(&rt; matches!(ask(7), Err(NoMemory)));
 }
