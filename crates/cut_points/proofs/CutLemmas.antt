@@ -9,7 +9,11 @@ use Rattle.number_line.specs.Ranges.{holds, IsCanonical, xor}
 use Rattle.ordered_lists.specs.Lists.{has, find}
 use Rattle.number_line.proofs.RangeLemmas.{first_holds, rest_holds, below_start}
 use Rattle.range_map.proofs.BoundLemmas.{xor_false}
-use Rattle.cut_points.specs.Cuts.{IsAscending, cuts, from_cuts, parity, changes}
+use Rattle.cut_points.specs.Cuts.{IsAscending, cuts, from_cuts, parity}
+
+-- whether f changes at x: from the number before, or from false before the first number
+abbrev pub changes : ℤ → (ℤ → Bool) → ℤ → Bool
+changes lo f x = if int_eq x lo then f x else xor (f x) (f (x -ℤ pos 1))
 
 -- ---- tests
 

@@ -8,8 +8,8 @@ use Rattle.ordered_lists.specs.Lists.{has}
 use Rattle.number_line.proofs.RangeLemmas.{below_start, same_list}
 use Rattle.number_line.proofs.SegmentLemmas.{distance, runs_canonical, runs_hold, canonical_is_runs}
 use Rattle.range_map.proofs.BoundLemmas.{xor_false}
-use Rattle.cut_points.specs.Cuts.{IsAscending, cuts, from_cuts, parity, changes}
-use Rattle.cut_points.proofs.CutLemmas.{cuts_ascend, from_cuts_canonical, cuts_again, parity_holds, parity_below, parity_of_changes, has_is_change, eq_same, eq_less, eq_more}
+use Rattle.cut_points.specs.Cuts.{IsAscending, cuts, from_cuts, parity}
+use Rattle.cut_points.proofs.CutLemmas.{changes, cuts_ascend, from_cuts_canonical, cuts_again, parity_holds, parity_below, parity_of_changes, has_is_change, eq_same, eq_less, eq_more}
 
 -- the ranges of a list of cuts hold the numbers of odd parity
 pub from_cuts_hold : (lo hi : ℤ) (cs : List ℤ) (x : ℤ) → IsAscending lo hi cs → x ≤ℤ hi → holds (from_cuts hi cs) x ≡ parity cs x

@@ -6,8 +6,8 @@ use Rattle.std.proofs.lemmas.Int.{ints, by_lt_z}
 use Rattle.number_line.specs.Ranges.{holds, IsCanonical, xor}
 use Rattle.ordered_lists.specs.Lists.{has, add, union, difference, symmetric_difference}
 use Rattle.number_line.proofs.SegmentLemmas.{distance}
-use Rattle.cut_points.specs.Cuts.{IsAscending, cuts, from_cuts, parity, changes}
-use Rattle.cut_points.proofs.CutLemmas.{parity_of_changes, cuts_ascend, ascending_from, has_cons, cmp_less, cmp_same, cmp_more, eq_less, eq_same, eq_more, both_turn}
+use Rattle.cut_points.specs.Cuts.{IsAscending, cuts, from_cuts, parity}
+use Rattle.cut_points.proofs.CutLemmas.{changes, parity_of_changes, cuts_ascend, ascending_from, has_cons, cmp_less, cmp_same, cmp_more, eq_less, eq_same, eq_more, both_turn}
 use Rattle.cut_points.proofs.RunLemmas.{same_cuts, cuts_are_changes, from_cuts_hold}
 
 or_swap : (a b c : Bool) → (a || (b || c)) ≡ ((b || c) || a)

@@ -1,8 +1,6 @@
 -- The cuts of a list of ranges: the numbers at which membership changes.
 use Rattle.std.specs.Prelude.{◌%◌, ◌==◌, ℤ, pos, ◌+ℤ◌, ◌-ℤ◌, ◌≤ℤ◌, Bool, int_le, int_lt, if◌then◌else◌, List, [], ◌∷◌, Option, Some, None}
 use Rattle.std.specs.List.{count_by}
-use Rattle.std.specs.Ordering.{int_eq}
-use Rattle.number_line.specs.Ranges.{xor}
 
 -- the numbers lie from lo to hi, and each is less than the next
 abbrev pub IsAscending : ℤ → ℤ → List ℤ → Type 0
@@ -24,10 +22,6 @@ from_cuts greatest (c ∷ d ∷ rest) = (c, d -ℤ pos 1) ∷ from_cuts greatest
 -- whether the count of cuts at most x is odd
 abbrev pub parity : List ℤ → ℤ → Bool
 parity list x = count_by (λ c. int_le c x) list % 2 == 1
-
--- whether f changes at x: from the number before, or from false before the first number
-abbrev pub changes : ℤ → (ℤ → Bool) → ℤ → Bool
-changes lo f x = if int_eq x lo then f x else xor (f x) (f (x -ℤ pos 1))
 
 -- the start of a range whose end is still to come, before the cuts that follow
 abbrev pub with_begun : Option ℤ → List ℤ → List ℤ

@@ -1,11 +1,24 @@
-//! What a caller learns of a set's ranges: a loop over them, the first and the rest, and the whole list.
-ghost use Rattle.std.specs.Prelude.{◌≡◌, ℤ, pos, ◌||◌, IfOk};
+//! What a caller learns: of two values in hand that they make a range, and of a set's ranges in a loop over them, by
+//! the first and the rest, and as the whole list.
+ghost use Rattle.std.specs.Prelude.{◌≡◌, ℤ, pos, ◌||◌, ◌≤ℤ◌, ◌<ℤ◌, IfOk, IfSome, IfNone};
 ghost use Rattle.number_line.specs.Ranges.{lies_in, holds};
 ghost use Rattle.range_map.specs.Set.{all_in_numbers};
 
 use crate::{Range, RangeSet};
-use element_core::{Element, NoMemory};
+use element_core::{Element, NoMemory, is_at_most};
 use std::alloc::Global;
+
+/// The range between two values, or `None` where they aren't in order.
+pub(crate) fn between<T: Element>(a: T, b: T) -> Option<Range<T>>
+    ensures range { IfSome result (λ range. range ≡ (a, b)) }
+    ensures turned { IfNone result (T.numbers.number b <ℤ T.numbers.number a) }
+{
+    if is_at_most(a, b) {
+        Some(Range::new(a, b))
+    } else {
+        None
+    }
+}
 
 /// At `i64` the numbers of a set are the values themselves.
 pub(crate) fn two_runs(alloc: Global) -> Result<RangeSet<i64>, NoMemory>

@@ -40,7 +40,7 @@ impl<T: Element> Clone for Range<T> {
 }
 
 impl<T: Element> Range<T> {
-    /// The range from `start` to `end`.
+    /// The range from `start` to `end`. Generic code tells that they are in order by `is_at_most` of `element_core`.
     pub fn new(start: T, end: T) -> Self
         requires { T.numbers.number start ≤ℤ T.numbers.number end }
         ensures value { result ≡ (start, end) }

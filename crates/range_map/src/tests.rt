@@ -1,5 +1,5 @@
 //! What no contract shows: that the calls succeed where memory suffices, and that the contracts say what is meant.
-use crate::callers::{collected, first_and_rest, listed, two_runs};
+use crate::callers::{between, collected, first_and_rest, listed, two_runs};
 use crate::{Range, RangeSet};
 use element_core::{Element, NoMemory};
 use std::alloc::Global;
@@ -294,4 +294,12 @@ fn debug_is_written(rt: HostRuntime) -> Result<(), Fail> {
     assert!(rt; format!(in rt.alloc(); "{set:?}")?.len() > 0);
     assert!(rt; format!(in rt.alloc(); "{ranges:?}")?.len() > 0);
     Ok(())
+}
+
+#[test]
+fn two_values_in_order_make_a_range(rt: HostRuntime) {
+    assert!(&rt; between(3u8, 5) == Some(Range::new(3, 5)));
+    assert!(&rt; between(5u8, 5) == Some(Range::single(5)));
+    assert!(&rt; between(i64::MIN, i64::MAX) == Some(Range::full()));
+    assert!(&rt; between(5u8, 4).is_none());
 }
