@@ -1,9 +1,11 @@
 //! What no contract shows: that the calls succeed where memory suffices, and that the contracts say what is meant.
+ghost use Rattle.std.specs.Prelude.{◌≡◌};
+
 use crate::callers::push_pair;
 use crate::{Group, RangeMultiMap};
 use element_core::NoMemory;
 use range_map::{Range, RangeMap};
-use std::alloc::Global;
+use std::alloc::{AllocError, Global};
 use std::hash::{DefaultHasher, Hash, Hasher};
 use std::test::Fail;
 
@@ -31,10 +33,10 @@ fn values_at(map: &RangeMap<i32, Group<u8>>, key: i32) -> &[u8] {
 }
 
 fn low_and_high(alloc: Global) -> Result<RangeMultiMap<i32, u8>, NoMemory> {
-    let mut list = Vec::new(alloc);
-    list.push((Range::new(i32::MIN, 200), 5))?;
-    list.push((Range::new(100, i32::MAX), 10))?;
-    Ok(RangeMultiMap::from_vec(list))
+    let mut map = RangeMultiMap::new(alloc);
+    map.insert(Range::new(i32::MIN, 200), 5)?;
+    map.insert(Range::new(100, i32::MAX), 10)?;
+    Ok(map)
 }
 
 #[test]
@@ -49,6 +51,15 @@ fn overlapping_ranges_are_grouped(rt: HostRuntime) -> Result<(), Fail> {
     assert_eq!(rt; values_at(&groups, 99), [5].as_slice());
     assert_eq!(rt; values_at(&groups, 100), [5, 10].as_slice());
     assert_eq!(rt; values_at(&groups, i32::MAX), [10].as_slice());
+    Ok(())
+}
+
+#[test]
+fn a_vector_is_taken_over(rt: HostRuntime) -> Result<(), Fail> {
+    let mut list = Vec::new(rt.alloc());
+    list.push((Range::new(i32::MIN, 200), 5))?;
+    list.push((Range::new(100, i32::MAX), 10))?;
+    assert!(rt; RangeMultiMap::from_vec(list) == low_and_high(rt.alloc())?);
     Ok(())
 }
 
@@ -114,5 +125,65 @@ fn pairs_keep_their_order(rt: HostRuntime) -> Result<(), Fail> {
         values.push((pair.0.start(), pair.1))?;
     }
     assert_eq!(rt; values.as_slice(), [(3, 9), (1, 7)].as_slice());
+    Ok(())
+}
+
+/// A name whose letter counts, but not where it was written.
+#[derive(Copy, Debug)]
+struct Name {
+    letter: u8,
+    line: u8,
+}
+
+impl Clone for Name {
+    ghost is_clone = { λ x y. y ≡ x };
+
+    fn clone(&self) -> Result<Name, AllocError> {
+        Ok(*self)
+    }
+}
+
+impl PartialEq for Name {
+    ghost use Rattle.std.specs.Prelude.{nat_eq};
+    ghost use Rattle.std.specs.Cmp.{on_equiv, nat_eq_equiv, partial_equiv_from_equiv};
+
+    ghost eq = { λ a b. nat_eq a.letter b.letter };
+
+    ghost laws = { partial_equiv_from_equiv (on_equiv (λ name. name.letter) nat_eq_equiv) };
+
+    fn eq(&self, other: &Name) -> bool {
+        self.letter == other.letter
+    }
+}
+
+impl Eq for Name {
+    ghost use Rattle.std.specs.Cmp.{on_equiv, nat_eq_equiv};
+
+    ghost laws = { on_equiv (λ name. name.letter) nat_eq_equiv };
+}
+
+#[test]
+fn the_first_of_equal_touching_groups_stays(rt: HostRuntime) -> Result<(), Fail> {
+    let mut map = RangeMultiMap::<u8, Name>::new(rt.alloc());
+    for (start, end, line) in [(4, 255, 3), (0, 1, 1), (2, 3, 2)] {
+        map.insert(Range::new(start, end), Name { letter: 7, line })?;
+    }
+    let groups = map.group(rt.alloc())?;
+    assert!(rt; groups.num_ranges() == 1);
+    let group = groups.get(255).expect(&rt, "every key has a group");
+    assert!(rt; matches!(group.as_slice(), [Name { letter: 7, line: 1 }]));
+    Ok(())
+}
+
+#[test]
+fn multimaps_and_groups_are_shown(rt: HostRuntime) -> Result<(), Fail> {
+    let alloc = rt.alloc();
+    let map = low_and_high(alloc)?;
+    let shown = format!(in alloc; "{map:?}")?;
+    assert!(&rt; shown.as_str().contains("200") && shown.as_str().contains("10"));
+    let groups = map.group(alloc)?;
+    let group = groups.get(150).expect(&rt, "150 has a group");
+    let shown = format!(in alloc; "{group:?}")?;
+    assert!(&rt; shown.as_str().contains("[5, 10]"));
     Ok(())
 }
