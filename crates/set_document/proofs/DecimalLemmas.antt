@@ -139,6 +139,9 @@ number_parts : (word : List ℕ) (z : ℤ) → number word ≡ Some z
     → (has_number_form word ≡ true) × (in_i64 z ≡ true) × (signed_digits_value 10 word ≡ z)
 number_parts word z e = grind arith
 
+pub number_fits : (word : List ℕ) (z : ℤ) → number word ≡ Some z → FitsSigned w64 z
+number_fits word z e = in_i64_fits z (number_parts word z e).1
+
 first_alone : (ds : List ℕ) → is_decimal ds ≡ true → get_or ds 0 0 ≡ 48 → length ds ≡ 1
 first_alone [] d e = absurd (cc)
 first_alone (c ∷ []) d e = refl

@@ -35,5 +35,5 @@ counts_text s =
     ++ (codes " rows " ++ (decimal (length s.rows) ++ (codes " bytes " ++ (decimal (length (printed s)) ++ codes "\n")))))))
 
 -- the counts of the answer to the sample text of n lines
-abbrev pub summary : ℕ → List ℕ
+unfoldable pub summary : ℕ → List ℕ
 summary n = counts_text (shape (sample n))

@@ -1,5 +1,5 @@
 -- What the words of the command line ask for.
-use Rattle.std.specs.Prelude.{◌≡◌, ◌≤◌, ◌×◌, ℕ, List, [], ◌∷◌, codes, decimal, Option, None, Some}
+use Rattle.std.specs.Prelude.{◌≡◌, ◌≤◌, ℕ, List, [], ◌∷◌, codes, decimal, Option, None, Some}
 use Rattle.set_program.specs.declared.command.Command.{Command}
 use Rattle.set_program.specs.declared.command.Command.TheVariants.{Answer, Sample}
 

@@ -104,9 +104,16 @@ fn a_sample_reads_nothing(rt: HostRuntime) -> Result<(), Fail> {
     let mut sink = good_sink(alloc)?;
     let words = words_of_line(alloc, "sample 4")?;
     assert_eq!(rt; run(alloc, &words, &mut source, &mut sink), Status::Done);
-    assert_eq!(rt; sink.bytes(), b"lines 4 ranges 6 rows 8 bytes 223\n".as_slice());
+    assert_eq!(rt;
+        sink.bytes(),
+        b"lines 4 ranges 6 rows 8 bytes 223\n".as_slice()
+    );
     let mut buffer = [0u8; 8];
-    assert_eq!(rt; source.read(&mut buffer), Err(Failed), "the first read is still to come");
+    assert_eq!(rt;
+        source.read(&mut buffer),
+        Err(Failed),
+        "the first read is still to come"
+    );
     assert_eq!(rt; source.read(&mut buffer), Ok(5));
     Ok(())
 }
@@ -117,7 +124,10 @@ fn a_write_of_the_counts_fails(rt: HostRuntime) -> Result<(), Fail> {
     let mut source = PlainSource::new(Vec::new(alloc));
     let mut sink = MemorySink::new(alloc, 64, 1, vec![in alloc; 6u64]?, false)?;
     let words = words_of_line(alloc, "sample 4")?;
-    assert_eq!(rt; run(alloc, &words, &mut source, &mut sink), Status::WriteFault);
+    assert_eq!(rt;
+        run(alloc, &words, &mut source, &mut sink),
+        Status::WriteFault
+    );
     assert_eq!(rt; sink.bytes(), b"lines".as_slice());
     Ok(())
 }

@@ -44,6 +44,7 @@ fn counts_of(alloc: Global, answer: &Answer<'_>, bytes: &[u8]) -> Result<Vec<u8>
 }
 
 // The counts of the answer to the sample text of so many lines.
+#[tactic(auto, unfolding(set_document::specs::Sample::summary))]
 fn summary_of(alloc: Global, lines: usize) -> Result<Vec<u8>, NoMemory>
     requires { lines ≤ 1000 }
     ensures { IfOk result (λ line. line.items ≡ summary lines) }
