@@ -9,3 +9,9 @@ pub mod TableLemmas
 pub mod GatherLemmas
 pub mod FewestLemmas
 pub mod ReadLemmas
+pub mod PieceLemmas
+pub mod DecimalLemmas
+pub mod PrintedLemmas
+pub mod ReadBackLemmas
+pub mod SampleLemmas
+pub mod CountLemmas

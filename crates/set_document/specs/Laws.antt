@@ -1,8 +1,11 @@
 -- What holds of the definitions of a document.
-use Rattle.std.specs.Prelude.{◌≡◌, ℕ, ◌≤◌, ℤ, ◌≤ℤ◌, Bool, List, [], ◌∷◌, length}
+use Rattle.std.specs.Prelude.{◌≡◌, ℕ, ◌≤◌, ℤ, ◌≤ℤ◌, Bool, List, [], ◌∷◌, length, map, nat_eq}
+use Rattle.std.specs.Cmp.Lexicographic.{pointwise}
 use Rattle.std.specs.List.{AllByRecursion}
 use Rattle.number_line.specs.Ranges.{holds, IsCanonical}
-use Rattle.number_line.specs.Segments.{IsCover}
+use Rattle.number_line.specs.Segments.{Segment, IsCut, IsCover}
+use Rattle.set_document.specs.Answer.{answer}
+use Rattle.set_document.specs.Faults.{IsWellFormed}
 use Rattle.set_document.specs.Numbers.{least, greatest, i64_runs}
 use Rattle.set_document.specs.Table.{names, held, rows}
 use Rattle.set_document.specs.Text.{lines, form, Comment}
@@ -12,13 +15,25 @@ use Rattle.set_document.specs.Truth.{at, named}
 abbrev pub RunsAreTheRanges : Type 0
 RunsAreTheRanges = (f : ℤ → Bool)
     → (IsCanonical least greatest (i64_runs f) × ((x : ℤ) → least ≤ℤ x → x ≤ℤ greatest → holds (i64_runs f) x ≡ f x))
-    × ((list : List (ℤ × ℤ)) → IsCanonical least greatest list → ((x : ℤ) → least ≤ℤ x → x ≤ℤ greatest → holds list x ≡ f x) → list ≡ i64_runs f)
+    × ((list : List (ℤ × ℤ)) → IsCanonical least greatest list
+    → ((x : ℤ) → least ≤ℤ x → x ≤ℤ greatest → holds list x ≡ f x) → list ≡ i64_runs f)
 
--- a text of comments alone, or the empty text, has one row of every number and no name; and no split of all numbers into ranges, in each of
--- which the same names hold throughout, is shorter than the rows
+-- a row as the segment of its numbers, labelled with the names that hold there
+abbrev pub segment_of : (ℤ × ℤ) × List ℕ → Segment (List ℕ)
+segment_of row = record { first = row.0.0; last = row.0.1; label = row.1 }
+
+-- a text of comments alone, or the empty text, has one row of every number and no name; the rows cut all numbers where the names that hold
+-- change, and nowhere else; and no split of all numbers into ranges, in each of which the same names hold throughout, is shorter
 pub record FewestRows (text : List ℕ) : Type 0 where
-  pub comments : AllByRecursion (λ line. form line ≡ Comment) (lines text) → (names text ≡ []) × (rows text ≡ ((least, greatest), []) ∷ [])
-  pub fewest : (cover : List (ℤ × ℤ)) → IsCover (λ x. held (at (named text) x)) greatest least cover → length (rows text) ≤ length cover
+  pub comments : AllByRecursion (λ line. form line ≡ Comment) (lines text)
+      → (names text ≡ []) × (rows text ≡ ((least, greatest), []) ∷ [])
+  pub cut : IsCut (pointwise nat_eq) (λ x. held (at (named text) x)) greatest least (map segment_of (rows text))
+  pub fewest : (cover : List (ℤ × ℤ)) → IsCover (λ x. held (at (named text) x)) greatest least cover
+      → length (rows text) ≤ length cover
 
 abbrev pub RowsAreFewest : Type 0
 RowsAreFewest = (text : List ℕ) → FewestRows text
+
+-- the answer to any text, also to one with a fault, is a text without a fault, and its own answer
+abbrev pub AnswersReadBack : Type 0
+AnswersReadBack = (text : List ℕ) → IsWellFormed (answer text) × (answer (answer text) ≡ answer text)

@@ -11,3 +11,4 @@ pub mod Lines
 pub mod Names
 pub mod Steps
 pub mod Laws
+pub mod Sample

@@ -1,7 +1,7 @@
 //! The answer of a document: its named sets, its table, and its bytes.
-ghost use Rattle.std.specs.Prelude.{◌≡◌, None, Some, IfOk, IfErr, OnOk, length, List, map, min, sum_by, slice_get, option_map};
+ghost use Rattle.std.specs.Prelude.{◌≡◌, Some, IfOk, IfErr, OnOk, length, List, map, min, sum_by, slice_get, option_map};
 ghost use Rattle.set_document.specs.Answer.{shape, printed, answer};
-ghost use Rattle.set_document.specs.Faults.{first_fault};
+ghost use Rattle.set_document.specs.Faults.{first_fault, IsWellFormed};
 ghost use Rattle.set_document.specs.Names.{with_last_places};
 ghost use Rattle.set_document.specs.Steps.{IsFirstFault};
 ghost use Rattle.set_document.specs.Words.{letters};
@@ -130,7 +130,7 @@ impl<'t> Answer<'t> {
 /// that they leave. One pass over the text; each word costs the ranges of the sets that it takes and leaves. The table
 /// is made by a sweep over the bounds of all ranges of the names' last lines, with a list of names for each stretch.
 pub fn evaluate<'t>(alloc: Global, text: &'t [u8]) -> Result<Answer<'t>, AlgebraError>
-    ensures well_formed { OnOk result (first_fault text.now ≡ None) }
+    ensures well_formed { OnOk result (IsWellFormed text.now) }
     ensures shape { IfOk result (λ answer. answer ≡ shape text.now) }
     ensures fault { IfErr result (IsFirstFault (first_fault text.now)) }
 {
@@ -141,7 +141,7 @@ pub fn evaluate<'t>(alloc: Global, text: &'t [u8]) -> Result<Answer<'t>, Algebra
 
 /// The bytes of the answer of a document, or its first fault. It costs as `evaluate` and `Answer::print` together.
 pub fn evaluate_document(alloc: Global, text: &[u8]) -> Result<Vec<u8>, AlgebraError>
-    ensures well_formed { OnOk result (first_fault text.now ≡ None) }
+    ensures well_formed { OnOk result (IsWellFormed text.now) }
     ensures answer { IfOk result (λ bytes. bytes.items ≡ answer text.now) }
     ensures fault { IfErr result (IsFirstFault (first_fault text.now)) }
 {

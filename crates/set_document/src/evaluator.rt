@@ -4,7 +4,7 @@ ghost use Rattle.number_line.specs.Ranges.{holds, IsCanonical};
 ghost use Rattle.set_document.specs.Numbers.{least, greatest};
 ghost use Rattle.set_document.specs.Text.{words, form, Not};
 ghost use Rattle.set_document.specs.Truth.{after_form, named, truth};
-ghost use Rattle.set_document.specs.Faults.{judge_word, fault_in_words, fault_in_form, names_after, first_fault, Depth};
+ghost use Rattle.set_document.specs.Faults.{judge_word, fault_in_words, fault_in_form, names_after, first_fault, IsWellFormed, Depth};
 ghost use Rattle.set_document.specs.Words.{shown};
 ghost use Rattle.set_document.specs.Lines.{lines_of, names_of, Agree, AllCanonical};
 ghost use Rattle.set_document.specs.Names.{IsIndex};
@@ -191,7 +191,7 @@ pub(crate) fn evaluate_lines<'t>(
     alloc: Global,
     text: &'t [u8],
 ) -> Result<NamedLines<'t>, AlgebraError>
-    ensures fault_free { OnOk result (first_fault text.now ≡ None) }
+    ensures fault_free { OnOk result (IsWellFormed text.now) }
     ensures lines { IfOk result (λ done. Agree (lines_of done.lines.items) (named text.now)) }
     ensures canonical { IfOk result (λ done. AllCanonical done.lines.items) }
     ensures indexed { IfOk result (λ done. IsIndex (names_of done.lines.items) done.latest.pairs) }

@@ -13,6 +13,7 @@ mod line;
 mod named_lines;
 mod number;
 mod print;
+mod sample;
 mod table;
 mod truth;
 mod word;
@@ -20,9 +21,13 @@ mod word;
 pub use answer::{Answer, evaluate, evaluate_document};
 pub use fault::AlgebraError;
 pub use line::{LineForm, read_line};
+pub use number::read_number;
+pub use sample::sample_text;
 pub use truth::truths_at;
 pub use word::{Name, Word, read_word};
 
+#[cfg(test)]
+mod sample_tests;
 #[cfg(test)]
 mod table_tests;
 #[cfg(test)]

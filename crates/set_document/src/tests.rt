@@ -328,23 +328,31 @@ fn sets_agree_with_the_plain_reading(rt: HostRuntime) -> Result<(), AlgebraError
         "a: 1..=9 4..=12 ^ 6 -\nb: full 5..=7 - 6 ^ 9223372036854775807 ^\n",
         "a: 1..=9\nb: a 5 -\na: b 7 ^\nc: a b ^ !\n",
     ];
+    let mut ends: usize = 0;
     for text in texts {
         for literal in literals_of(alloc, text.as_bytes())? {
+            ends = ends.saturating_add(1);
             agrees_at(&rt, alloc, text.as_bytes(), literal.saturating_sub(1))?;
             agrees_at(&rt, alloc, text.as_bytes(), literal)?;
             agrees_at(&rt, alloc, text.as_bytes(), literal.saturating_add(1))?;
         }
     }
+    assert!(&rt;
+        ends == 46,
+        "each number and both ends of each range are tried"
+    );
     Ok(())
 }
 
 #[test]
-fn the_plain_reading_reads_the_whole_language(rt: HostRuntime) -> Result<(), NoMemory> {
-    let text = b"a: 1..=5 4..=8 ^\nb: a 2 -\na: b !\nc: a b ^\n";
+fn the_plain_reading_reads_each_kind_of_word(rt: HostRuntime) -> Result<(), NoMemory> {
+    let text = b"a: 1..=5 4..=8 ^\nb: a 2 -\na: b !\nc: a b ^\nd: 7 empty |\ne: full d &\n";
     let at_two = truths_at(rt.alloc(), text, 2)?;
-    assert!(&rt; at_two.as_slice() == [true, false, true, true].as_slice());
+    assert!(&rt; at_two.as_slice() == [true, false, true, true, false, false].as_slice());
     let at_four = truths_at(rt.alloc(), text, 4)?;
-    assert!(&rt; at_four.as_slice() == [false, false, true, true].as_slice());
+    assert!(&rt; at_four.as_slice() == [false, false, true, true, false, false].as_slice());
+    let at_seven = truths_at(rt.alloc(), text, 7)?;
+    assert!(&rt; at_seven.as_slice() == [true, true, false, true, true, true].as_slice());
     Ok(())
 }
 

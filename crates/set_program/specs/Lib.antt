@@ -1,6 +1,7 @@
 pub mod Counts
 pub mod Devices
 pub mod Outcome
+pub mod Command
 pub mod Reading
 pub mod MemorySource
 pub mod MemorySink

@@ -1,14 +1,9 @@
 -- The outcome of a run.
-use Rattle.std.specs.Prelude.{◌≡◌, ℕ, List, [], ◌∷◌, ⊤, Option, None, Some}
+use Rattle.std.specs.Prelude.{◌≡◌, ℕ, List, ⊤, Option, None, Some}
 use Rattle.set_document.specs.Faults.{first_fault}
 use Rattle.set_document.specs.declared.fault.AlgebraError.{AlgebraError}
 use Rattle.set_program.specs.declared.status.Status.{Status}
-use Rattle.set_program.specs.declared.status.Status.TheVariants.{Done, TextFault, NoMemory, ReadFault, TooLong, Usage}
-
--- the words are of no form that the program has
-abbrev pub AreUnusable : List (List ℕ) → Type 0
-AreUnusable [] = ⊥
-AreUnusable (word ∷ words) = ⊤
+use Rattle.set_program.specs.declared.status.Status.TheVariants.{Done, TextFault, NoMemory, ReadFault, WriteFault, TooLong, Usage}
 
 -- the status of a text with this first fault
 abbrev pub status_by : Option AlgebraError → Status
@@ -30,3 +25,10 @@ IsAfterReading ReadFault = ⊥
 IsAfterReading TooLong = ⊥
 IsAfterReading Usage = ⊥
 IsAfterReading _ = ⊤
+
+-- a status that comes where no text is read
+abbrev pub IsWithoutText : Status → Type 0
+IsWithoutText Done = ⊤
+IsWithoutText NoMemory = ⊤
+IsWithoutText WriteFault = ⊤
+IsWithoutText _ = ⊥

@@ -1,9 +1,9 @@
 //! From a text to what the sink gets.
-ghost use Rattle.std.specs.Prelude.{◌≡◌, ◌≤◌, None, Some, true, IfOk};
+ghost use Rattle.std.specs.Prelude.{◌≡◌, ◌≤◌, Some, true, IfOk};
 ghost use Rattle.std.specs.Io.KnownBytes.{Appends};
 ghost use Rattle.set_document.specs.Answer.{answer};
 ghost use Rattle.set_document.specs.FaultText.{fault_line, text_of};
-ghost use Rattle.set_document.specs.Faults.{first_fault};
+ghost use Rattle.set_document.specs.Faults.{first_fault, IsWellFormed};
 ghost use Rattle.set_program.specs.Counts.{Rose, NotRose};
 ghost use Rattle.set_program.specs.Devices.{AppendsPrefix};
 ghost use Rattle.set_program.specs.Outcome.{IsAfterReading, IsUnlessNoMemory, status_of};
@@ -33,7 +33,7 @@ pub fn line_of(alloc: Global, fault: AlgebraError) -> Result<Vec<u8>, NoMemory>
 pub fn answer_text<K: Sink>(alloc: Global, text: &[u8], sink: &mut K) -> Status
     ensures reached { IsAfterReading result }
 
-    ensures done_text { result ≡ Status.Done → first_fault text.now ≡ None }
+    ensures done_text { result ≡ Status.Done → IsWellFormed text.now }
     ensures done_written { result ≡ Status.Done
         → Appends (K.written sink.old) (K.written sink.new) (answer text.now) }
     ensures done_finished { result ≡ Status.Done → K.finished sink.new ≡ true }

@@ -1,9 +1,10 @@
-//! Reads a text, and writes its answer or its first fault. The words of the command line, the text and the answer go
+//! Reads a text, and writes its answer or its first fault; or writes the counts of a sample's answer. The words of the command line, the text and the answer go
 //! through devices, over memory or over std, so that `run` is proved against what a device may do.
 #![tactic(auto)]
 
 mod answering;
 pub mod arguments;
+pub mod command;
 pub mod devices;
 pub mod memory_sink;
 pub mod memory_source;
@@ -12,6 +13,9 @@ pub mod program;
 mod reading;
 #[cfg(test)]
 mod run_tests;
+#[cfg(test)]
+mod sample_tests;
+mod sampling;
 pub mod standard;
 #[cfg(test)]
 mod standard_tests;

@@ -1,24 +1,30 @@
 //! From the words, the source and the sink to the status.
-ghost use Rattle.std.specs.Prelude.{◌≡◌, ◌+◌, ◌<◌, ◌≤◌, ◌↔◌, None, Some, [], true, IfSome, length};
+ghost use Rattle.std.specs.Prelude.{◌≡◌, ◌+◌, ◌<◌, ◌≤◌, ◌↔◌, ℕ, Some, [], true, IfSome, length};
 ghost use Rattle.std.specs.Io.KnownBytes.{Appends};
 ghost use Rattle.set_document.specs.Answer.{answer};
 ghost use Rattle.set_document.specs.FaultText.{fault_line, text_of};
-ghost use Rattle.set_document.specs.Faults.{first_fault};
+ghost use Rattle.set_document.specs.Faults.{first_fault, IsWellFormed};
+ghost use Rattle.set_document.specs.Sample.{summary};
+ghost use Rattle.set_program.specs.Command.{AreUnusable, AskForSample};
 ghost use Rattle.set_program.specs.Counts.{Rose, RoseBy, NotRose};
 ghost use Rattle.set_program.specs.Devices.{ReadWhole, AppendsPrefix};
-ghost use Rattle.set_program.specs.Outcome.{AreUnusable, IsUnlessNoMemory, status_of};
+ghost use Rattle.set_program.specs.Outcome.{IsUnlessNoMemory, status_of};
 
 use crate::answering::answer_text;
 use crate::arguments::Argument;
+use crate::command::{Command, read_command};
 use crate::devices::{Sink, Source};
 use crate::reading::{MAX_READ, MAX_TEXT, Reading, read_text, zeroed};
+use crate::sampling::write_summary;
 use crate::status::Status;
 use set_document::AlgebraError;
 use std::alloc::Global;
 
-/// Reads a text from the source, and writes its answer to the sink, or the line of its first fault.
+/// Without words it reads a text from the source, and writes its answer to the sink, or the line of its first fault. With
+/// the words `sample` and a decimal from 1 to 1000 it leaves the source alone, and writes the counts of the answer to the
+/// sample text of so many lines, as `lines 4 ranges 6 rows 8 bytes 223`.
 ///
-/// It judges the words first: any word is `Usage`, with no device called. Then it reads to the end of the input, or to
+/// It judges the words first: any others are `Usage`, with no device called. Then it reads to the end of the input, or to
 /// the 65,537th byte, which is `TooLong` at once; then it evaluates the text, writes, and finishes the sink. Each write
 /// is handed all that isn't written yet, in one piece. The first failed call on a device ends the run as `ReadFault` or
 /// `WriteFault`. All memory is taken before the first write, and `NoMemory` leaves the sink as it was.
@@ -35,18 +41,30 @@ pub fn run<S: Source, K: Sink>(
     ensures usage_source { result ≡ Status.Usage → source.new ≡ source.old }
     ensures usage_sink { result ≡ Status.Usage → sink.new ≡ sink.old }
 
-    // The whole answer.
-    ensures done_read { result ≡ Status.Done
+    // The whole answer of a text.
+    ensures done_read { words.now ≡ [] → result ≡ Status.Done
         → ReadWhole MAX_TEXT (S.left source.old) (S.left source.new) }
-    ensures done_text { result ≡ Status.Done
-        → IfSome (S.left source.old) (λ text. first_fault text ≡ None) }
-    ensures done_written { result ≡ Status.Done → IfSome (S.left source.old) (λ text.
+    ensures done_text { words.now ≡ [] → result ≡ Status.Done
+        → IfSome (S.left source.old) (λ text. IsWellFormed text) }
+    ensures done_written { words.now ≡ [] → result ≡ Status.Done
+        → IfSome (S.left source.old) (λ text.
         Appends (K.written sink.old) (K.written sink.new) (answer text)) }
     ensures done_source_faults { result ≡ Status.Done → S.faults source.new ≡ S.faults source.old }
     ensures done_sink_faults { result ≡ Status.Done → K.faults sink.new ≡ K.faults sink.old }
     ensures done_finished { result ≡ Status.Done → K.finished sink.new ≡ true }
 
+    // The counts of a sample.
+    ensures sample_source { (lines : ℕ) → AskForSample words.now lines
+        → source.new ≡ source.old }
+    ensures sample_written { (lines : ℕ) → AskForSample words.now lines → result ≡ Status.Done
+        → Appends (K.written sink.old) (K.written sink.new) (summary lines) }
+    ensures sample_prefix { (lines : ℕ) → AskForSample words.now lines
+        → result ≡ Status.WriteFault
+        → AppendsPrefix (K.written sink.old) (K.written sink.new) (summary lines) }
+
     // The first fault.
+    ensures fault_words { (fault : AlgebraError) → result ≡ Status.TextFault fault
+        → words.now ≡ [] }
     ensures fault_read { (fault : AlgebraError) → result ≡ Status.TextFault fault
         → ReadWhole MAX_TEXT (S.left source.old) (S.left source.new) }
     ensures fault_text { (fault : AlgebraError) → result ≡ Status.TextFault fault
@@ -82,9 +100,10 @@ pub fn run<S: Source, K: Sink>(
         → Rose (K.faults sink.old) (K.faults sink.new) }
     ensures write_source_faults { result ≡ Status.WriteFault
         → S.faults source.new ≡ S.faults source.old }
-    ensures write_read { result ≡ Status.WriteFault
+    ensures write_read { words.now ≡ [] → result ≡ Status.WriteFault
         → ReadWhole MAX_TEXT (S.left source.old) (S.left source.new) }
-    ensures write_written { result ≡ Status.WriteFault → IfSome (S.left source.old) (λ text.
+    ensures write_written { words.now ≡ [] → result ≡ Status.WriteFault
+        → IfSome (S.left source.old) (λ text.
         AppendsPrefix (K.written sink.old) (K.written sink.new) (text_of text)) }
     ensures write_unfinished { result ≡ Status.WriteFault
         → K.finished sink.new ≡ true → K.finished sink.old ≡ true }
@@ -94,14 +113,17 @@ pub fn run<S: Source, K: Sink>(
         → S.faults source.new ≡ S.faults source.old }
     ensures memory_sink { result ≡ Status.NoMemory → sink.new ≡ sink.old }
 
-    // Where no call fails, the text decides.
-    ensures complete { words.now ≡ [] → IfSome (S.left source.old) (λ text. length text ≤ MAX_TEXT
+    // Where no call fails, the text and the words decide.
+    ensures complete_text { words.now ≡ [] → IfSome (S.left source.old) (λ text. length text ≤ MAX_TEXT
         → NotRose (S.faults source.old) (S.faults source.new)
         → NotRose (K.faults sink.old) (K.faults sink.new)
         → IsUnlessNoMemory result (status_of text)) }
-    ensures complete_long { words.now ≡ [] → IfSome (S.left source.old) (λ text. MAX_TEXT < length text
-        → NotRose (S.faults source.old) (S.faults source.new)
+    ensures complete_long { words.now ≡ [] → IfSome (S.left source.old) (λ text.
+        MAX_TEXT < length text → NotRose (S.faults source.old) (S.faults source.new)
         → IsUnlessNoMemory result Status.TooLong) }
+    ensures complete_sample { (lines : ℕ) → AskForSample words.now lines
+        → NotRose (K.faults sink.old) (K.faults sink.new)
+        → IsUnlessNoMemory result Status.Done }
 
     // Counters.
     ensures taken { S.taken source.new ≤ S.taken source.old + MAX_READ }
@@ -109,8 +131,10 @@ pub fn run<S: Source, K: Sink>(
     ensures source_faults_never_fall { S.faults source.old ≤ S.faults source.new }
     ensures sink_faults_never_fall { K.faults sink.old ≤ K.faults sink.new }
 {
-    if !words.is_empty() {
-        return Status::Usage;
+    match read_command(words) {
+        Some(Command::Answer) => {}
+        Some(Command::Sample(lines)) => return write_summary(alloc, lines, sink),
+        None => return Status::Usage,
     }
     let Ok(mut buffer) = zeroed(alloc, MAX_READ) else {
         return Status::NoMemory;

@@ -1,5 +1,4 @@
-//! Tests of `run` over devices in memory: what is written, how it ends, and how the devices are called.
-use crate::arguments::Argument;
+//! Tests of `run` without words over devices in memory: what is written, how it ends, and how the devices are called.
 use crate::devices::Source;
 use crate::memory_sink::MemorySink;
 use crate::memory_source::MemorySource;
@@ -15,6 +14,8 @@ use std::test::Fail;
 const ROOM: usize = 65_536;
 
 const FIRST: &[u8] = b"a: 1..=5 4..=8 ^\n";
+
+const UNION: &[u8] = b"a: 1..=5 4..=8 |\n";
 
 const FIRST_ANSWER: &str = "a: 1..=3 6..=8 |\n\
     # -9223372036854775808..=0\n# 1..=3 a\n# 4..=5\n# 6..=8 a\n# 9..=9223372036854775807\n";
@@ -42,8 +43,8 @@ fn comment_of(alloc: Global, length: usize) -> Result<Vec<u8>, AllocError> {
     Ok(text)
 }
 
-// A sink with the rows' room whose calls don't fail.
-fn good_sink(alloc: Global) -> Result<MemorySink, Fail> {
+// A sink with room for each answer here, whose calls don't fail.
+pub(crate) fn good_sink(alloc: Global) -> Result<MemorySink, Fail> {
     Ok(MemorySink::new(alloc, ROOM, ROOM, Vec::new(alloc), false)?)
 }
 
@@ -95,6 +96,14 @@ fn answers_at_both_ends(rt: HostRuntime) -> Result<(), Fail> {
             "a: -9223372036854775808..=9223372036854775806 !\n",
             "a: 9223372036854775807..=9223372036854775807\n\
              # -9223372036854775808..=9223372036854775806\n\
+             # 9223372036854775807..=9223372036854775807 a\n",
+        ),
+        (
+            "a: 9223372036854775807 -9223372036854775808 |\n",
+            "a: -9223372036854775808..=-9223372036854775808 \
+             9223372036854775807..=9223372036854775807 |\n\
+             # -9223372036854775808..=-9223372036854775808 a\n\
+             # -9223372036854775807..=9223372036854775806\n\
              # 9223372036854775807..=9223372036854775807 a\n",
         ),
         (
@@ -236,8 +245,8 @@ fn read_fails_at_the_longest_text(rt: HostRuntime) -> Result<(), Fail> {
 #[test]
 fn writes_fail(rt: HostRuntime) -> Result<(), Fail> {
     let alloc = rt.alloc();
-    for (piece, failing) in [(1usize, 5u64), (4, 2)] {
-        let mut source = PlainSource::new(FIRST.to_vec(alloc)?);
+    for (text, piece, failing) in [(UNION, 1usize, 5u64), (FIRST, 1, 5), (FIRST, 4, 2)] {
+        let mut source = PlainSource::new(text.to_vec(alloc)?);
         let mut sink = MemorySink::new(alloc, ROOM, piece, vec![in alloc; failing]?, false)?;
         let status = run(alloc, &[], &mut source, &mut sink);
         assert_eq!(rt; status, Status::WriteFault);
@@ -266,24 +275,6 @@ fn finish_fails(rt: HostRuntime) -> Result<(), Fail> {
     assert_eq!(rt; status, Status::WriteFault);
     assert_eq!(rt; status.code(), 4);
     assert_eq!(rt; sink.bytes(), FIRST_ANSWER.as_bytes());
-    Ok(())
-}
-
-#[test]
-fn any_word_is_usage(rt: HostRuntime) -> Result<(), Fail> {
-    let alloc = rt.alloc();
-    for word in ["x", "", "sample"] {
-        let argument = Argument::new(word.as_bytes().to_vec(alloc)?);
-        assert_eq!(rt; argument.as_bytes(), word.as_bytes());
-        let mut source = WatchedSource::new(FIRST.to_vec(alloc)?, 4, Vec::new(alloc));
-        let mut sink = WatchedSink::new(4, Vec::new(alloc));
-        let status = run(alloc, &[argument], &mut source, &mut sink);
-        assert_eq!(rt; status, Status::Usage, "at {word}");
-        assert_eq!(rt; status.code(), 6);
-        assert_eq!(rt; source.handed().len(), 0);
-        assert_eq!(rt; sink.handed().len(), 0);
-        assert_eq!(rt; sink.finishes(), 0);
-    }
     Ok(())
 }
 

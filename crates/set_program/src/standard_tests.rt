@@ -57,7 +57,7 @@ fn source_goes_on_after_a_fault(rt: HostRuntime) -> Result<(), Fail> {
 }
 
 #[test]
-fn sink_counts_a_write_that_takes_nothing(rt: HostRuntime) -> Result<(), Fail> {
+fn a_write_that_takes_nothing_fails(rt: HostRuntime) -> Result<(), Fail> {
     let mut sink = StdSink::new(TakesNothing);
     assert_eq!(rt; sink.write(b"a"), Err(Failed));
     assert_eq!(rt; sink.finish(), Ok(()));

@@ -7,7 +7,7 @@ use set_document::AlgebraError;
 /// How a run ended.
 #[derive(Clone, Copy, Debug, PartialEq, Eq)]
 pub enum Status {
-    /// The whole answer was written.
+    /// The whole answer was written, or the counts of a sample's.
     Done,
     /// The text's first fault was written; it is never want of memory.
     TextFault(AlgebraError),

@@ -1,0 +1,27 @@
+-- What the words of the command line ask for.
+use Rattle.std.specs.Prelude.{◌≡◌, ◌≤◌, ℕ, List, [], ◌∷◌, codes, decimal, Option, None, Some}
+use Rattle.set_program.specs.declared.command.Command.{Command}
+use Rattle.set_program.specs.declared.command.Command.TheVariants.{Answer, Sample}
+
+-- the word is the decimal of this number of lines, from 1 to 1000; a decimal has no leading zero
+pub record IsLineCount (word : List ℕ) (lines : ℕ) : Type 0 where
+  pub written : word ≡ decimal lines
+  pub some : 1 ≤ lines
+  pub most : lines ≤ 1000
+
+-- the words are `sample` and a number of lines
+pub record AskForSample (words : List (List ℕ)) (lines : ℕ) : Type 0 where
+  pub written : words ≡ codes "sample" ∷ decimal lines ∷ []
+  pub some : 1 ≤ lines
+  pub most : lines ≤ 1000
+
+-- the words are of no form that the program has: neither none, nor `sample` and a number of lines
+pub record AreUnusable (words : List (List ℕ)) : Type 0 where
+  pub some : words ≡ [] → ⊥
+  pub no_sample : (lines : ℕ) → AskForSample words lines → ⊥
+
+-- what the words ask for, or nothing where they are unusable
+abbrev pub AskFor : List (List ℕ) → Option Command → Type 0
+AskFor words None = AreUnusable words
+AskFor words (Some Answer) = words ≡ []
+AskFor words (Some (Sample lines)) = AskForSample words lines
