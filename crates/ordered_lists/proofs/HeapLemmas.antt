@@ -103,24 +103,30 @@ module _ {X : Type 0} {less : X → X → Bool} (xs : List X) where
     past = λ i c d ik kc low l. absurd (omega (arith, below_child i k ik, low));
   }
 
-  -- a heap with another first element, and maybe a shorter one
-  pub other_first : (ys : List X) → IsHeap less xs → length ys ≤ length xs → ((k : ℕ) (d : X) → 0 < k → k < length ys → slice_index_or ys k d ≡ slice_index_or xs k d) → IsHeapBut less 0 0 ys
+  -- Of a heap whose first element is another one, no element is less than the one above it, where that isn't the first. Nor where the
+  -- list is shorter, and its first element is another one again.
+  pub other_first : (ys : List X) → IsHeapBut less 0 0 xs → length ys ≤ length xs → ((k : ℕ) (d : X) → 0 < k → k < length ys → slice_index_or ys k d ≡ slice_index_or xs k d) → IsHeapBut less 0 0 ys
   other_first ys h short same = record {
     begins = omega arith;
     others = λ i c d ic low l n.
         let below = below_child i c ic in
         let pos : 0 < i = omega (arith, n) in
-        rw (same c d (omega (arith, below)) l, same i d pos (omega (arith, below, l))) (h i c d ic (omega arith) (omega (arith, l, short)));
+        rw (same c d (omega (arith, below)) l, same i d pos (omega (arith, below, l))) (h.others i c d ic (omega arith) (omega (arith, l, short)) n);
     past = λ i c d ik kc low l. absurd (omega (arith, below_child i 0 ik));
   }
 
   pub first_set : (x : X) → IsHeap less xs → IsHeapBut less 0 0 (slice_set xs 0 x)
   first_set x h =
       let long = length-set xs 0 x in
-      other_first (slice_set xs 0 x) h (omega (arith, long)) (λ k d pos l. get_or-set_other xs 0 k x d (λ e. absurd (omega (arith, pos, e))))
+      let but : IsHeapBut less 0 0 xs = record {
+          begins = omega arith;
+          others = λ i c d ic low l n. h i c d ic low l;
+          past = λ i c d ik kc low l. absurd (omega (arith, below_child i 0 ik));
+      } in
+      other_first (slice_set xs 0 x) but (omega (arith, long)) (λ k d pos l. get_or-set_other xs 0 k x d (λ e. absurd (omega (arith, pos, e))))
 
-  -- the last one in place of the first
-  pub first_removed : (x : X) → IsHeap less xs → IsHeapBut less 0 0 (swap_remove xs 0 x)
+  -- the last one went into the place of the first
+  pub first_removed : (x : X) → IsHeapBut less 0 0 xs → IsHeapBut less 0 0 (swap_remove xs 0 x)
   first_removed x h =
       let set_first = slice_set xs 0 (slice_index_or xs (length xs - 1) x) in
       let long = length-set xs 0 (slice_index_or xs (length xs - 1) x) in
