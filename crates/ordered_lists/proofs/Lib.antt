@@ -8,3 +8,4 @@ pub mod WalkLemmas
 pub mod ViewLemmas
 pub mod HeapLemmas
 pub mod PermutationLemmas
+pub mod CountLemmas

@@ -8,3 +8,4 @@ pub mod MultiwayTakeLemmas
 pub mod MultiwayStepLemmas
 pub mod MultiwayStartLemmas
 pub mod MultiwayCallers
+pub mod MultiwayHintLemmas

@@ -5,6 +5,7 @@ ghost use Rattle.sorted_iter.specs.MultiwayHeads.{before};
 
 mod heads;
 mod heap;
+mod hint;
 mod make;
 mod stream;
 mod take;

@@ -1,7 +1,10 @@
 //! Stepping a many-way union, and its mark.
-ghost use Rattle.std.specs.Prelude.{◌≡◌, All};
+ghost use Rattle.std.specs.Prelude.{◌≡◌, All, IfSome};
+ghost use Rattle.std.specs.Iterator.{UpTo};
+ghost use Rattle.std.specs.Iterator.SizeHint.{IsWithinCount};
 ghost use Rattle.sorted_iter.specs.TwoSidesLemmas.{through-in_order};
 ghost use Rattle.sorted_iter.specs.MultiwayHeads.{can_go, heads_count};
+ghost use Rattle.sorted_iter.specs.MultiwayHints.{IsMultiwayHint};
 ghost use Rattle.sorted_iter.specs.MultiwayLaws.{multi-in_order, multi-goes_on};
 ghost use Rattle.sorted_iter.specs.MultiwayRunLemmas.{HeadAscends};
 ghost use Rattle.sorted_iter.specs.MultiwaySteps.{multi_steps};
@@ -9,6 +12,7 @@ ghost use Rattle.sorted_iter.specs.MultiwayViews.{union_heads, multiway_steps};
 
 use crate::marks::SortedByItem;
 use crate::multiway::MultiwayUnion;
+use crate::multiway::hint::hint_of;
 use crate::multiway::take::{take_equal, take_least};
 
 impl<I: Iterator> Iterator for MultiwayUnion<I>
@@ -29,6 +33,17 @@ where
             drop(equal);
         }
         Some(x)
+    }
+
+    /// At least as many items as the greatest of the inputs has, and at most as many as all have together. Both count from the
+    /// inputs' own hints and the items in hand, in O(k) for k inputs.
+    fn size_hint(&self) -> (usize, Option<usize>)
+        ensures lower { IsWithinCount result.0 (heads_count I.remaining (union_heads self.now)) }
+        ensures upper { IfSome result.1 (UpTo (heads_count I.remaining (union_heads self.now))) }
+        ensures hints { IsMultiwayHint I.Item.cmp I.next_gives I.remaining (union_heads self.now)
+            (multiway_steps I.Item.cmp I.next_gives) self.now result }
+    {
+        hint_of(&self.heads)
     }
 }
 
