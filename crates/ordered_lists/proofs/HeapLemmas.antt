@@ -1,9 +1,10 @@
 -- One element of a heap moves down to its place.
 use Rattle.std.proofs.Common.{◌≡◌, ℕ, zero, suc, ◌+◌, ◌-◌, ◌*◌, ◌/◌, ◌<◌, ◌≤◌, ◌⊎◌, ⊎_elim, inl, inr, Bool, true, false, List, [], ◌∷◌, length, slice_index_or, slice_set, swap_remove, take, refl, ◌∙◌, arith}
 use Rattle.std.specs.Cmp.{IsStrictWeakOrder}
-use Rattle.std.specs.List.{SwappedAt}
+use Rattle.std.specs.List.{SwappedAt, AllZip}
 use Rattle.std.proofs.lemmas.Bool.{cases_eq, cases_Bool}
 use Rattle.std.proofs.lemmas.List.{length-set, get_or-set_other, get_or-take, length-take-le}
+use Rattle.std.proofs.lemmas.List.Elements.{length_all_zip, AllZip-get_or}
 use Rattle.ordered_lists.specs.Heaps.{IsChild, IsHeapFrom, IsHeap, IsHeapBut, IsLeastChild}
 
 pub below_child : (i c : ℕ) → IsChild i c → i < c
@@ -133,3 +134,10 @@ module _ {X : Type 0} {less : X → X → Bool} (xs : List X) where
       let short = length-take-le (length xs - 1) set_first (omega (arith, long)) in
       other_first (swap_remove xs 0 x) h (omega (arith, short))
           (λ k d pos l. get_or-take (length xs - 1) set_first k d (omega (arith, l, short)) ∙ get_or-set_other xs 0 k (slice_index_or xs (length xs - 1) x) d (λ e. absurd (omega (arith, pos, e))))
+
+-- lists whose elements compare alike are both heaps
+pub heap_alike : {X : Type 0} {less : X → X → Bool} {Like : X → X → Type 0} (xs ys : List X) → AllZip Like xs ys → ((x u y v : X) → Like x y → Like u v → less y v ≡ less x u) → IsHeap less xs → IsHeap less ys
+heap_alike {Like = Like} xs ys z same heap i c d ic low l =
+    let long = length_all_zip Like xs ys z in
+    let in_xs : c < length xs = omega (arith, l, long) in
+    same _ _ _ _ (AllZip-get_or Like xs ys c d d z in_xs) (AllZip-get_or Like xs ys i d d z (omega (arith, in_xs, below_child i c ic))) ∙ heap i c d ic low in_xs

@@ -9,3 +9,4 @@ pub mod MultiwayStepLemmas
 pub mod MultiwayStartLemmas
 pub mod MultiwayCallers
 pub mod MultiwayHintLemmas
+pub mod MultiwayCloneLemmas

@@ -3,6 +3,7 @@ ghost use Rattle.std.proofs.Props.{props};
 ghost use Rattle.ordered_lists.specs.Heaps.{IsHeap};
 ghost use Rattle.sorted_iter.specs.MultiwayHeads.{before};
 
+mod copy;
 mod heads;
 mod heap;
 mod hint;

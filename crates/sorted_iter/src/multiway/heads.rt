@@ -1,7 +1,10 @@
 //! An input of a many-way union with its next item in hand.
+ghost use Rattle.std.specs.Prelude.{IfOk};
 ghost use Rattle.std.specs.Iterator.{MakesProgress};
+ghost use Rattle.sorted_iter.specs.MultiwayClones.{IsHeadClone};
 ghost use Rattle.sorted_iter.specs.MultiwayHeads.{GoesOn};
 
+use element_core::NoMemory;
 use std::mem;
 
 /// An input whose next item was taken.
@@ -32,5 +35,19 @@ where
     {
         let next = self.rest.next()?;
         Some(mem::replace(&mut self.item, next))
+    }
+
+    /// The same place with a clone of the item and one of the rest of the input.
+    pub(crate) fn try_clone(&self) -> Result<Self, NoMemory>
+    where
+        I: Clone,
+        I::Item: Clone,
+        ensures { IfOk result (λ copy. IsHeadClone I.is_clone I.Item.is_clone self.now copy) }
+    {
+        Ok(InputHead {
+            item: self.item.clone()?,
+            rest: self.rest.clone()?,
+            place: self.place,
+        })
     }
 }
