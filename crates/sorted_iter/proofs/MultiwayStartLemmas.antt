@@ -12,12 +12,13 @@ use Rattle.std.proofs.lemmas.List.Elements.{All-nil, All-cons, All-head, All-tai
 use Rattle.std.proofs.lemmas.List.Sorted.{All-permutation, Contains-permutation, IsPermutation-sym, ranks_by, sorted_far}
 use Rattle.ordered_lists.proofs.PermutationLemmas.{in_order_of}
 use Rattle.ordered_lists.specs.Lists.{has}
+use Rattle.ordered_lists.specs.Multiway.{IsMultiwayUnion}
 use Rattle.ordered_lists.proofs.PlaceLemmas.{all_map}
 use Rattle.sorted_iter.specs.Orders.{InOrder, GivesList}
 use Rattle.sorted_iter.specs.TwoSidesLemmas.{Through, through-yields}
 use Rattle.sorted_iter.specs.declared.multiway.heads.InputHead.{InputHead}
 use Rattle.sorted_iter.specs.MultiwayHeads.{before, Begun}
-use Rattle.sorted_iter.specs.MultiwaySteps.{multi_steps, Started, IsPassed, IsMultiwayUnion, IsMultiwayFront, MultiRunsAre, MultiListsAre}
+use Rattle.sorted_iter.specs.MultiwaySteps.{multi_steps, Started, IsPassed, IsMultiwayFront, MultiRunsAre, MultiListsAre}
 use Rattle.sorted_iter.specs.MultiwayRunLemmas.{Bundle, full, In, in-moved, Tail, HeadAscends, Behind, here, there, cons-cases, run-back, map-cons}
 
 any-here : {X : Type 0} (P : X → Type 0) (x : X) (xs : List X) → P x → Any P (x ∷ xs)

@@ -7,6 +7,7 @@ use Rattle.std.specs.Ordering.{is_lt}
 use Rattle.std.specs.declared.cmp.Ordering.{Ordering}
 use Rattle.std.specs.declared.cmp.Ordering.TheVariants.{Less, Equal}
 use Rattle.ordered_lists.specs.Lists.{has}
+use Rattle.ordered_lists.specs.Multiway.{IsMultiwayUnion}
 use Rattle.sorted_iter.specs.Orders.{GivesList}
 use Rattle.sorted_iter.specs.declared.multiway.heads.InputHead.{InputHead}
 use Rattle.sorted_iter.specs.MultiwayHeads.{Begun, TakesLeast}
@@ -26,12 +27,6 @@ module _ {S A : Type 0} (cmp : A → A → Ordering) (steps : S → Option A →
   -- one call of `next`
   abbrev pub multi_steps : List (InputHead S A) → Option A → List (InputHead S A) → Type 0
   multi_steps hs r ks = MatchOption r ((hs ≡ []) × (ks ≡ [])) (λ x. TakesEqual hs x ks)
-
--- m strictly ascends, each item of m is an item of one of the lists, and each item of each list has an equal in m
-pub record IsMultiwayUnion {A : Type 0} (cmp : A → A → Ordering) (ls : List (List A)) (m : List A) : Type 0 where
-  pub ascends : IsStrictlySortedBy cmp m
-  pub from_inputs : AllByRecursion (λ x. Any (λ l. Contains l x) ls) m
-  pub covers : All (AllByRecursion (λ x. has cmp m x ≡ true)) ls
 
 -- Of the items l that a run of an input gave, each has an equal in m where that run is whole. Else each but the last has one, and the
 -- last is above all of m, and then no whole run gave m.

@@ -11,6 +11,9 @@ mod make;
 mod stream;
 mod take;
 
+#[cfg(test)]
+mod tests;
+
 pub use heads::InputHead;
 pub use make::multiway_union;
 

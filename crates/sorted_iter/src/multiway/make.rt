@@ -4,8 +4,8 @@ ghost use Rattle.std.specs.Iterator.{IsFinite};
 ghost use Rattle.std.specs.Iterator.Runs.{EachRunFrom, WholeRun, AllItems};
 ghost use Rattle.sorted_iter.specs.MultiwayRunLemmas.{HeadAscends};
 ghost use Rattle.sorted_iter.specs.MultiwayHeads.{can_go, heads_count};
-ghost use Rattle.sorted_iter.specs.MultiwaySteps.{Started, MultiRunsAre, MultiListsAre};
-ghost use Rattle.sorted_iter.specs.MultiwayViews.{union_heads, multiway_steps};
+ghost use Rattle.sorted_iter.specs.MultiwaySteps.{Started, multi_steps, MultiRunsAre, MultiListsAre};
+ghost use Rattle.sorted_iter.specs.MultiwayViews.{union_heads};
 
 use crate::multiway::heads::InputHead;
 use crate::multiway::heap::heapify;
@@ -57,9 +57,10 @@ where
     ensures ends { IfOk result (λ m. IsFinite (heads_count I.remaining (union_heads m))) }
     ensures in_order { IfOk result (λ m. All (HeadAscends I.Item.cmp I.next_gives) (union_heads m)) }
     ensures gives { IfOk result (λ m. (j : T.IntoIter) × T.into_iter_gives iters j
-        × WholeRun T.IntoIter.next_gives j (λ p. MultiRunsAre I.Item.cmp (multiway_steps I.Item.cmp I.next_gives) m
+        × WholeRun T.IntoIter.next_gives j (λ p.
+            MultiRunsAre I.Item.cmp (multi_steps I.Item.cmp I.next_gives) (union_heads m)
                 I.next_gives p.items
-            × MultiListsAre I.Item.cmp (multiway_steps I.Item.cmp I.next_gives) m
+            × MultiListsAre I.Item.cmp (multi_steps I.Item.cmp I.next_gives) (union_heads m)
                 I.next_gives p.items)) }
 {
     let mut heads = heads_of(alloc, iters)?;

@@ -29,5 +29,5 @@ returns-clause-gives g c =
     let p = s.2.0 in
     let known = every-all g.I.SortedByItem.in_order p.items (each_of p _ (c.requires.in_order s.0 s.1 p (seen _) s.2.1)) in
     let asc : AllByRecursion (InOrder g.I.Item.Ord.cmp g.I.Iterator.next_gives) p.items = all_map _ _ g.met.I.SortedByItem.sorted p.items known in
-    let runs = runs-are g.met.I.Item.Ord.total g.I.Iterator.next_gives (λ m. m.heads.items) p.items c.in_ok-heads.heads.items _ s.2.3 c.heapify.ensures.same asc in
+    let runs = runs-are g.met.I.Item.Ord.total g.I.Iterator.next_gives (λ l. l) p.items c.in_ok-heads.heads.items _ s.2.3 c.heapify.ensures.same asc in
     (s.0, s.1, (p, s.2.1, s.2.2, (runs, lists-are g.I.Iterator.next_gives runs)))
