@@ -39,14 +39,14 @@ module _ {S A T : Type 0} {cmp : A → A → Ordering} {steps : S → Option A �
   union-of_collect (Err e) h z c = tt
 
   -- what `collect` of a clone gives: the items of a union, up to equality
-  pub union-of_copy : {Z E : Type 0} {s t : T} {can : List (InputHead S A) → Type 0} {left : List (InputHead S A) → Count} (r : Result (Vec A Z) E)
+  pub union-of_copy : {Z E : Type 0} (s t : T) {can : List (InputHead S A) → Type 0} {left : List (InputHead S A) → Count} (r : Result (Vec A Z) E)
       → MultiListsAre cmp (multi_steps cmp steps) (inner s) steps its → AllZip (GivesList steps) its ls → ComesAlike can left cmp (multi_steps cmp steps) (inner s) (inner t)
       → IsCollectResult (Through inner (multi_steps cmp steps)) t r → IfOk r (λ w. (m : List A) × IsMultiwayUnion cmp ls m × AllZip (λ x y. cmp x y ≡ Equal) m (vec_items w))
-  union-of_copy {t = t} (Ok w) h z alike c =
+  union-of_copy s t (Ok w) h z alike c =
       let p = run (multi_steps cmp steps) (inner t) c.0 true (inner c.1.0, through-yields inner (multi_steps cmp steps) c.0 t c.1.0 c.1.1, λ _. (inner (c.1.2 tt).0, (c.1.2 tt).1)) in
       let q = alike.runs p (seen _) refl in
       (q.0.items, h.give ls z q.0 (seen _) q.1 q.2.whole, subst (AllZip (λ x y. cmp x y ≡ Equal) q.0.items) (sym c.2.0) q.2.items)
-  union-of_copy (Err e) h z alike c = tt
+  union-of_copy s t (Err e) h z alike c = tt
 
 -- a clone that is the stream itself
 pub same_comes_alike : {S A : Type 0} {cmp : A → A → Ordering} → IsTotalOrder cmp → (steps : S → Option A → S → Type 0) (can : S → Type 0) (left : S → Count) (s t : S) → t ≡ s → ComesAlike can left cmp steps s t

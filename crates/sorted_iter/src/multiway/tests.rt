@@ -12,7 +12,8 @@ ghost use Rattle.sorted_iter.specs.MultiwayClones.{ComesAlike};
 use crate::{MultiwayUnion, SortedByItem, SortedIterator, Union, multiway_union};
 use element_core::NoMemory;
 use std::alloc::Global;
-use std::collections::{BTreeSet, btree_set};
+use std::collections::BTreeSet;
+use std::ops::Range;
 use std::test::Fail;
 
 /// All items of the union of many streams.
@@ -98,5 +99,48 @@ fn three_sets(rt: HostRuntime) -> Result<(), Fail> {
     let expected = [0, 1, 4, 5, 7, 9, 10, 11, 15, 16, 18, 20, 25, 36];
     assert_eq!(rt; all.as_slice(), expected.as_slice());
     assert_eq!(rt; copy.as_slice(), expected.as_slice());
+    Ok(())
+}
+
+/// The hint of the union of ranges, just made, and its items.
+fn hint_and_items(
+    alloc: Global,
+    ranges: Vec<Range<u32>>,
+) -> Result<((usize, Option<usize>), Vec<u32>), NoMemory> {
+    let all = multiway_union(alloc, ranges)?;
+    Ok((all.size_hint(), all.collect(alloc)?))
+}
+
+#[test]
+fn no_input_and_one(rt: HostRuntime) -> Result<(), Fail> {
+    let alloc = rt.alloc();
+    let (hint, items) = hint_and_items(alloc, Vec::new(alloc))?;
+    assert_eq!(rt; hint, (0, Some(0)));
+    assert_eq!(rt; items.len(), 0);
+    let (hint, items) = hint_and_items(alloc, vec![in alloc; 3..6]?)?;
+    assert_eq!(rt; hint, (3, Some(3)));
+    assert_eq!(rt; items.as_slice(), [3, 4, 5].as_slice());
+    Ok(())
+}
+
+#[test]
+fn an_input_ends_early(rt: HostRuntime) -> Result<(), Fail> {
+    let alloc = rt.alloc();
+    let (hint, items) = hint_and_items(alloc, vec![in alloc; 0..2, 4..4, 1..6]?)?;
+    assert_eq!(rt; hint, (5, Some(7)));
+    assert_eq!(rt; items.as_slice(), [0, 1, 2, 3, 4, 5].as_slice());
+    Ok(())
+}
+
+#[test]
+fn equal_items_of_200_inputs_come_once(rt: HostRuntime) -> Result<(), Fail> {
+    let alloc = rt.alloc();
+    let mut ranges = Vec::new(alloc);
+    for _ in 0..200 {
+        ranges.push(7u32..8)?;
+    }
+    let (hint, items) = hint_and_items(alloc, ranges)?;
+    assert_eq!(rt; hint, (1, Some(200)));
+    assert_eq!(rt; items.as_slice(), [7].as_slice());
     Ok(())
 }

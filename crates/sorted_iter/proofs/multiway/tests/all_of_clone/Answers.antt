@@ -17,4 +17,4 @@ returns g c = λ ls z.
     let m = c.in_ok-all.ensures.gives in
     let same = items-of_run m.2.0 m.2.1 m.2.2 (list-of_into_iter m.0 c.args.iters.items m.1.0 m.1.3) in
     let lists = subst (MultiListsAre g.I.Item.Ord.cmp _ _ g.I.Iterator.next_gives) same m.2.3.1 in
-    union-of_copy union_heads ls {E = Unit {0}} (Ok c.in_ok-collect.field-0) lists z c.in_ok-try_clone.ensures.same c.in_ok-collect.ensures.ran
+    union-of_copy union_heads ls {E = Unit {0}} c.in_ok-all.all _ (Ok c.in_ok-collect.field-0) lists z c.in_ok-try_clone.ensures.same c.in_ok-collect.ensures.ran
