@@ -6,3 +6,6 @@ pub mod MergeLemmas
 pub mod StableLemmas
 pub mod WalkLemmas
 pub mod ViewLemmas
+pub mod HeapLemmas
+pub mod PermutationLemmas
+pub mod CountLemmas

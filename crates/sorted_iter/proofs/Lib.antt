@@ -4,3 +4,9 @@ pub mod WalkSteps
 pub mod SourceLists
 pub mod Literals
 pub mod RefLists
+pub mod MultiwayTakeLemmas
+pub mod MultiwayStepLemmas
+pub mod MultiwayStartLemmas
+pub mod MultiwayCallers
+pub mod MultiwayHintLemmas
+pub mod MultiwayCloneLemmas
