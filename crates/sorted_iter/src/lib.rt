@@ -19,4 +19,6 @@ pub use crate::symmetric_difference::SymmetricDifference;
 pub use crate::union::Union;
 
 #[cfg(test)]
+mod callers;
+#[cfg(test)]
 mod tests;
