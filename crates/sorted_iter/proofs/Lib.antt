@@ -4,3 +4,5 @@ pub mod WalkSteps
 pub mod SourceLists
 pub mod Literals
 pub mod RefLists
+pub mod TellLemmas
+pub mod PairRuns
