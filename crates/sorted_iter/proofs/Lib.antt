@@ -6,3 +6,5 @@ pub mod Literals
 pub mod RefLists
 pub mod TellLemmas
 pub mod PairRuns
+pub mod CopyLemmas
+pub mod InnerCopies

@@ -1,7 +1,9 @@
 //! A source of items in front of which one may be held: what the streams of two sources are built of.
-ghost use Rattle.std.specs.Prelude.{◌≡◌};
+ghost use Rattle.std.specs.Prelude.{◌≡◌, IfOk};
+ghost use Rattle.sorted_iter.specs.Copies.{IsHeadClone, IsAheadClone};
 ghost use Rattle.sorted_iter.specs.Lookahead.{ahead_of, ahead_can, Takes, PutsBack};
 
+use std::alloc::AllocError;
 use std::mem;
 
 /// What is known of the next item of a source.
@@ -15,6 +17,19 @@ pub enum Head<T> {
 
     /// The source has ended, and isn't asked again.
     Ended,
+}
+
+impl<T: Clone> Head<T> {
+    // The same, with a clone of the item that is held.
+    fn try_clone(&self) -> Result<Self, AllocError>
+        ensures { IfOk result (λ copy. IsHeadClone T.is_clone self.now copy) }
+    {
+        match self {
+            Head::Unread => Ok(Head::Unread),
+            Head::Held(item) => Ok(Head::Held(item.clone()?)),
+            Head::Ended => Ok(Head::Ended),
+        }
+    }
 }
 
 /// A source in front of which an item may be held. Once the source has answered `None` it isn't asked again.
@@ -70,5 +85,19 @@ where
         ensures { PutsBack self.old item self.new }
     {
         self.head = Head::Held(item);
+    }
+}
+
+impl<I: Iterator + Clone> Ahead<I>
+where
+    I::Item: Clone,
+{
+    // A clone of the source, with a clone of the item that is held in front of it.
+    pub(crate) fn try_clone(&self) -> Result<Self, AllocError>
+        ensures { IfOk result (λ copy. IsAheadClone I.is_clone I.Item.is_clone self.now copy) }
+    {
+        let source = self.source.clone()?;
+        let head = self.head.try_clone()?;
+        Ok(Ahead { source, head })
     }
 }
