@@ -8,3 +8,4 @@ pub mod TellLemmas
 pub mod PairRuns
 pub mod CopyLemmas
 pub mod InnerCopies
+pub mod HintLemmas

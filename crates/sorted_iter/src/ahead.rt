@@ -1,8 +1,10 @@
 //! A source of items in front of which one may be held: what the streams of two sources are built of.
-ghost use Rattle.std.specs.Prelude.{◌≡◌, IfOk};
+ghost use Rattle.std.specs.Prelude.{◌≡◌, ℕ, IfOk, Option};
 ghost use Rattle.sorted_iter.specs.Copies.{IsHeadClone, IsAheadClone};
+ghost use Rattle.sorted_iter.specs.Hints.{IsHint, ahead_hint};
 ghost use Rattle.sorted_iter.specs.Lookahead.{ahead_of, ahead_can, Takes, PutsBack};
 
+use crate::hints::{Hint, sum_of};
 use std::alloc::AllocError;
 use std::mem;
 
@@ -77,6 +79,19 @@ where
                 self.head = Head::Ended;
                 None
             }
+        }
+    }
+
+    // A hint of how many items `take` gives before its first `None`, from that of the source.
+    pub(crate) fn size_hint(&self) -> Hint
+        ensures { (h : ℕ × Option ℕ) × IsHint (I.remaining self.now.source) h
+            × (result ≡ ahead_hint self.now.head h) }
+    {
+        let (low, high) = self.source.size_hint();
+        match &self.head {
+            Head::Unread => (low, high),
+            Head::Held(_) => (low.saturating_add(1), sum_of(high, Some(1))),
+            Head::Ended => (0, Some(0)),
         }
     }
 

@@ -3,6 +3,7 @@
 
 mod ahead;
 mod difference;
+mod hints;
 mod intersection;
 mod marks;
 mod pairs;
