@@ -1,6 +1,7 @@
 //! Lazy set operations over streams whose items strictly ascend. A mark with laws says of an iterator that they do.
 #![tactic(auto)]
 
+mod adapter_marks;
 mod ahead;
 mod difference;
 mod hints;
@@ -15,7 +16,7 @@ mod union;
 pub use crate::ahead::{Ahead, Head};
 pub use crate::difference::Difference;
 pub use crate::intersection::Intersection;
-pub use crate::marks::{AssumeSortedByItem, AssumeSortedByItemExt, SortedByItem, SortedIterator};
+pub use crate::marks::{AssumeSortedByItem, AssumeSortedByItemExt, OneOrLess, SortedByItem, SortedIterator};
 pub use crate::pairs::Pairs;
 pub use crate::sides::Sides;
 pub use crate::symmetric_difference::SymmetricDifference;
