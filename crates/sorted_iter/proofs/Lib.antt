@@ -10,3 +10,8 @@ pub mod MultiwayStartLemmas
 pub mod MultiwayCallers
 pub mod MultiwayHintLemmas
 pub mod MultiwayCloneLemmas
+pub mod TellLemmas
+pub mod PairRuns
+pub mod CopyLemmas
+pub mod InnerCopies
+pub mod HintLemmas

@@ -17,7 +17,7 @@ pub record GivesRefs {S X : Type 0} (steps : S → Option (Bor X) → S → Type
 
 module _ {S A D : Type 0} (view : A → D) (steps : S → Option A → S → Type 0) where
   -- what each run begins is what always comes
-  all_runs : (all : List D) (s : S) → ((zs : List A) (w : Bool) → DrainsIf steps (w ≡ true) s zs → Begins w (map view zs) all) → AlwaysYields steps view s all
+  pub all_runs : (all : List D) (s : S) → ((zs : List A) (w : Bool) → DrainsIf steps (w ≡ true) s zs → Begins w (map view zs) all) → AlwaysYields steps view s all
   all_runs [] s h = λ x j k.
       let b = h (x ∷ []) false (j, (j, k, refl), λ e. absurd (true≢false (sym e))) in
       let e : [] ≡ view x ∷ b.0 = b.1 in

@@ -11,8 +11,8 @@ use Rattle.ordered_lists.specs.Walks.{walk}
 use Rattle.ordered_lists.proofs.WalkLemmas.{walk-union, walk-intersection, walk-difference, walk-symmetric_difference}
 use Rattle.sorted_iter.specs.declared.sides.Sides.{Sides}
 use Rattle.sorted_iter.specs.Orders.{InOrder, GivesList, Begins, RunsAre, ListsAre}
-use Rattle.sorted_iter.specs.Lookahead.{ahead_of, pending, is_ended, AheadAscends}
-use Rattle.sorted_iter.specs.LookaheadLemmas.{reads-drains, WillGive}
+use Rattle.sorted_iter.specs.Lookahead.{ahead_of, pending, is_ended, AheadAscends, WillGive}
+use Rattle.sorted_iter.specs.LookaheadLemmas.{reads-drains}
 use Rattle.sorted_iter.specs.TwoSides.{sides_of, sides_ascend, Gives, StepsTwo}
 use Rattle.sorted_iter.specs.TwoSidesLemmas.{Through, through-yields, through-always, yields-gives, gives-append, two-always}
 

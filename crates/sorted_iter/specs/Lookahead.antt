@@ -1,7 +1,7 @@
 -- A source in front of which an item may be held.
 use Rattle.std.specs.Prelude.{◌≡◌, ◌+◌, ◌≤◌, ◌⊎◌, Bool, true, false, List, [], ◌∷◌, ◌++◌, Option, Some, None, MatchOption, option_to_list}
 use Rattle.std.specs.Option.{option_len}
-use Rattle.std.specs.Iterator.{Count, IsFinite, size, at_most, count_map}
+use Rattle.std.specs.Iterator.{Count, IsFinite, size, at_most, count_map, AlwaysYields}
 use Rattle.std.specs.List.Sorted.{IsStrictlySortedBy}
 use Rattle.std.specs.declared.cmp.Ordering.{Ordering}
 use Rattle.sorted_iter.specs.declared.ahead.Ahead.{Ahead}
@@ -68,3 +68,10 @@ module _ {S A : Type 0} where
   -- the items that come from h on strictly ascend
   pub record AheadAscends (cmp : A → A → Ordering) (steps : S → Option A → S → Type 0) (h : Ahead S A) : Type 0 where
     pub ascends : (us : List A) (t : Ahead S A) → Passes steps h us t → IsStrictlySortedBy cmp (us ++ pending t.head)
+
+-- all the items to come from h on are xs
+pub record WillGive {S A : Type 0} (steps : S → Option A → S → Type 0) (h : Ahead S A) (xs : List A) : Type 0 where
+  pub rest : List A
+  pub is : xs ≡ pending h.head ++ rest
+  pub at_end : is_ended h.head ≡ true → rest ≡ []
+  pub runs : is_ended h.head ≡ false → AlwaysYields steps (λ x. x) h.source rest

@@ -2,7 +2,7 @@
 use Rattle.std.proofs.Common.{◌≡◌, inl, inr, Bool, true, false, List, [], ◌∷◌, ◌++◌, Option, None, refl, sym, ap, ap₂, subst, ◌∙◌, append_assoc, append-nil, true≢false}
 use Rattle.std.specs.Iterator.{DrainsIf, AlwaysYields}
 use Rattle.sorted_iter.specs.declared.ahead.Ahead.{Ahead}
-use Rattle.sorted_iter.specs.Lookahead.{pending, is_ended, Reads, MayFollow, Passes}
+use Rattle.sorted_iter.specs.Lookahead.{pending, is_ended, Reads, MayFollow, WillGive, Passes}
 
 module _ {S A : Type 0} (steps : S → Option A → S → Type 0) where
   -- once ended there is no call
@@ -34,13 +34,6 @@ module _ {S A : Type 0} (steps : S → Option A → S → Type 0) where
       let one = k.1 x e.1 e.2 in
       let m = reads-always xs false b e.1 t zs refl one.1 e.3 in
       (m.0, ap₂ (λ v l. v ∷ l) (sym one.0) m.1, m.2, m.3)
-
--- all the items to come from h on are xs
-pub record WillGive {S A : Type 0} (steps : S → Option A → S → Type 0) (h : Ahead S A) (xs : List A) : Type 0 where
-  pub rest : List A
-  pub is : xs ≡ pending h.head ++ rest
-  pub at_end : is_ended h.head ≡ true → rest ≡ []
-  pub runs : is_ended h.head ≡ false → AlwaysYields steps (λ x. x) h.source rest
 
 -- the held item may be all that follows
 pub held-follows : {S A : Type 0} (h : Ahead S A) → MayFollow h (pending h.head)

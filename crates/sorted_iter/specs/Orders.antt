@@ -1,5 +1,5 @@
 -- What a mark says of an iterator, and the lists that iterators give.
-use Rattle.std.specs.Prelude.{◌≡◌, ℕ, Bool, true, suc, zero, List, [], ◌++◌, Option, Some, None}
+use Rattle.std.specs.Prelude.{◌≡◌, ℕ, Bool, true, suc, zero, List, [], ◌++◌, length, ◌≤◌, Option, Some, None}
 use Rattle.std.specs.Iterator.{Yields, YieldsThen, AlwaysYields}
 use Rattle.std.specs.Iterator.Runs.{Run, SomeRun, EachRunFrom}
 use Rattle.std.specs.List.Sorted.{IsStrictlySortedBy}
@@ -10,9 +10,18 @@ abbrev pub Rests : {S A : Type 0} → (S → Option A → S → Type 0) → ℕ 
 Rests steps zero s t = s ≡ t
 Rests {S} steps (suc n) s t = (j : S) × steps s None j × Rests steps n j t
 
+-- an ended iterator stays ended: once `None` has come no call gives an item
+pub record StaysEnded {S A : Type 0} (steps : S → Option A → S → Type 0) (s : S) : Type 0 where
+  pub ended : (xs : List A) (t : S) (n : ℕ) (u : S) (x : A) (v : S) → YieldsThen steps s xs None t → Rests steps n t u → steps u (Some x) v → ⊥
+
 -- the items still to come strictly ascend, and an ended iterator stays ended: once `None` has come no call gives an item
 pub record InOrder {S A : Type 0} (cmp : A → A → Ordering) (steps : S → Option A → S → Type 0) (s : S) : Type 0 where
   pub ascends : (xs : List A) (t : S) → Yields steps s xs t → IsStrictlySortedBy cmp xs
+  pub stays_ended : (xs : List A) (t : S) (n : ℕ) (u : S) (x : A) (v : S) → YieldsThen steps s xs None t → Rests steps n t u → steps u (Some x) v → ⊥
+
+-- at most one item is still to come, and an ended iterator stays ended
+pub record AtMostOne {S A : Type 0} (steps : S → Option A → S → Type 0) (s : S) : Type 0 where
+  pub one : (xs : List A) (t : S) → Yields steps s xs t → length xs ≤ 1
   pub stays_ended : (xs : List A) (t : S) (n : ℕ) (u : S) (x : A) (v : S) → YieldsThen steps s xs None t → Rests steps n t u → steps u (Some x) v → ⊥
 
 -- the items still to come are those of xs: every run of calls from s gives them, and then `None`

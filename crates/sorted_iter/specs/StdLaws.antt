@@ -1,5 +1,5 @@
 -- The laws of the marks of std's iterators.
-use Rattle.std.proofs.Common.{◌≡◌, ℕ, ◌+◌, ◌-◌, ◌<◌, Bool, true, false, List, [], ◌∷◌, refl, sym, ap, ◌∙◌, arith}
+use Rattle.std.proofs.Common.{◌≡◌, ℕ, ◌+◌, ◌-◌, ◌<◌, Bool, true, false, List, [], ◌∷◌, length, ◌≤◌, Option, Some, None, refl, sym, ap, subst, ◌∙◌, arith}
 use Rattle.std.proofs.lemmas.Int.{ints}
 use Rattle.std.specs.Prelude.{ℤ, pos, ◌+ℤ◌, ◌<ℤ◌}
 use Rattle.std.specs.Range.{range_steps, range_inclusive_steps, range_inclusive_left, range_inclusive_len, range_inclusive_start, range_inclusive_end, range_inclusive_exhausted}
@@ -12,8 +12,12 @@ use Rattle.std.specs.declared.cmp.Ordering.{Ordering}
 use Rattle.std.specs.declared.cmp.Ordering.TheVariants.{Less, Equal, Greater}
 use Rattle.std.specs.declared.ops.Range.{Range}
 use Rattle.std.specs.declared.ops.RangeInclusive.{RangeInclusive}
-use Rattle.sorted_iter.specs.Orders.{InOrder}
-use Rattle.sorted_iter.specs.Laws.{in_order-by_bound}
+use Rattle.std.specs.Iterator.{Yields}
+use Rattle.std.specs.Iterator.Adapters.{once_steps, once_item}
+use Rattle.std.specs.declared.iter.Once.{Once}
+use Rattle.sorted_iter.specs.GoesOn.{ascends-back}
+use Rattle.sorted_iter.specs.Orders.{Rests, InOrder, AtMostOne}
+use Rattle.sorted_iter.specs.Laws.{in_order-by_bound, over_rests}
 use Rattle.sorted_iter.specs.Sources.{in_order-of_rest}
 
 module _ {A : Type 0} {cmp : A → A → Ordering} (o : IsTotalOrder cmp) (gap : A → A → ℕ) (follows : A → A → Type 0) (up : (x y : A) → follows x y → cmp x y ≡ Less) where
@@ -79,3 +83,28 @@ int_range_inclusive-in_order = range_inclusive-in_order int_cmp_total int_gap in
 -- the keys of a `BTreeSet`, as references
 pub keys-in_order : {K : Type 0} (cmp : K → K → Ordering) (s : List K) → IsStrictlySortedBy cmp s → InOrder (λ x y. cmp x.now y.now) (TakesFirst (deref {X = K})) s
 keys-in_order {K} cmp s h = in_order-of_rest (λ x. x.now) (TakesFirst (deref {X = K})) (λ l. l) (λ l. l ≡ []) (λ l m x k. (k, λ z. let w : [] ≡ x.now ∷ m = sym z ∙ k in absurd cc)) (λ l m k. k.1) cmp s h
+
+-- the items of an iterator that is seen as the list of what it has left
+module _ {A K : Type 0} (shows : A → K) where
+  pub shown-in_order : (cmp : K → K → Ordering) (s : List K) → IsStrictlySortedBy cmp s → InOrder (λ x y. cmp (shows x) (shows y)) (TakesFirst shows) s
+  shown-in_order cmp s h = in_order-of_rest shows (TakesFirst shows) (λ l. l) (λ l. l ≡ []) (λ l m x k. (k, λ z. let w : [] ≡ shows x ∷ m = sym z ∙ k in absurd cc)) (λ l m k. k.1) cmp s h
+
+  pub shown-goes_on : (cmp : K → K → Ordering) (s t : List K) (r : Option A) → IsStrictlySortedBy cmp s → TakesFirst shows s r t → IsStrictlySortedBy cmp t
+  shown-goes_on cmp s t None h e = subst (IsStrictlySortedBy cmp) (e.0 ∙ sym e.1) h
+  shown-goes_on cmp s t (Some x) h e = ascends-back cmp (shows x ∷ []) t (subst (IsStrictlySortedBy cmp) e h)
+
+-- ---- one item or none
+
+once_ends : {A : Type 0} (n : ℕ) (s t : Once A) → once_item s ≡ None → Rests once_steps n s t → once_item t ≡ None
+once_ends n s t h e = over_rests once_steps (λ z. once_item z ≡ None) (λ a b k. k.1) n s t h e
+
+pub once-one : {A : Type 0} (s : Once A) → AtMostOne once_steps s
+once-one {A} s = record {
+  one = one;
+  stays_ended = λ xs t n u x v e f k. let z = once_ends n t u e.2.1 f in let w : Some x ≡ None = k.0 ∙ z in absurd cc;
+}
+  where
+    one : (xs : List A) (t : Once A) → Yields once_steps s xs t → length xs ≤ 1
+    one [] t e = omega arith
+    one (x ∷ []) t e = omega arith
+    one (x ∷ y ∷ xs) t e = let w : Some y ≡ None = e.2.1.0 ∙ e.1.1 in absurd cc

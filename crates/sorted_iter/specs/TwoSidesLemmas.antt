@@ -6,8 +6,8 @@ use Rattle.std.specs.declared.cmp.Ordering.{Ordering}
 use Rattle.ordered_lists.proofs.WalkLemmas.{ascends-front}
 use Rattle.sorted_iter.specs.declared.sides.Sides.{Sides}
 use Rattle.sorted_iter.specs.Orders.{Rests, InOrder}
-use Rattle.sorted_iter.specs.Lookahead.{pending, AheadAscends}
-use Rattle.sorted_iter.specs.LookaheadLemmas.{passes-none, passes-append, passes-follow, held-follows, WillGive, will-follow, passes-will}
+use Rattle.sorted_iter.specs.Lookahead.{pending, AheadAscends, WillGive}
+use Rattle.sorted_iter.specs.LookaheadLemmas.{passes-none, passes-append, passes-follow, held-follows, will-follow, passes-will}
 use Rattle.sorted_iter.specs.TwoSides.{Gives, IsSpent, StepsTwo}
 
 -- a stream that is stepped through a part of its state

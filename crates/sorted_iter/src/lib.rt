@@ -1,11 +1,14 @@
 //! Lazy set operations over streams whose items strictly ascend. A mark with laws says of an iterator that they do.
 #![tactic(auto)]
 
+mod adapter_marks;
 mod ahead;
 mod difference;
+mod hints;
 mod intersection;
 mod marks;
 mod multiway;
+mod pairs;
 mod sides;
 mod std_marks;
 mod symmetric_difference;
@@ -14,11 +17,14 @@ mod union;
 pub use crate::ahead::{Ahead, Head};
 pub use crate::difference::Difference;
 pub use crate::intersection::Intersection;
-pub use crate::marks::{AssumeSortedByItem, AssumeSortedByItemExt, SortedByItem, SortedIterator};
 pub use crate::multiway::{InputHead, MultiwayUnion, multiway_union};
+pub use crate::marks::{AssumeSortedByItem, AssumeSortedByItemExt, OneOrLess, SortedByItem, SortedIterator};
+pub use crate::pairs::Pairs;
 pub use crate::sides::Sides;
 pub use crate::symmetric_difference::SymmetricDifference;
 pub use crate::union::Union;
 
+#[cfg(test)]
+mod callers;
 #[cfg(test)]
 mod tests;

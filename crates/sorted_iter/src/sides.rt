@@ -1,9 +1,11 @@
 //! The walk along two ascending sources, which the four streams share.
-ghost use Rattle.std.specs.Prelude.{◌≡◌};
+ghost use Rattle.std.specs.Prelude.{◌≡◌, IfOk};
 ghost use Rattle.ordered_lists.specs.Walks.{walk};
+ghost use Rattle.sorted_iter.specs.Copies.{IsAheadClone};
 ghost use Rattle.sorted_iter.specs.TwoSides.{sides_of, sides_can, StepsTwo, Nears};
 
 use crate::ahead::Ahead;
+use std::alloc::AllocError;
 use std::cmp::Ordering;
 
 /// Which items a walk gives.
@@ -89,5 +91,20 @@ where
                 }
             }
         }
+    }
+}
+
+impl<I: Iterator + Clone, J: Iterator<Item = I::Item> + Clone> Sides<I, J>
+where
+    I::Item: Clone,
+{
+    // Clones of both sources, with clones of the items that are held in front of them.
+    pub(crate) fn try_clone(&self) -> Result<Self, AllocError>
+        ensures { IfOk result (λ copy. IsAheadClone I.is_clone I.Item.is_clone self.now.left copy.left
+            × IsAheadClone J.is_clone I.Item.is_clone self.now.right copy.right) }
+    {
+        let left = self.left.try_clone()?;
+        let right = self.right.try_clone()?;
+        Ok(Sides { left, right })
     }
 }
