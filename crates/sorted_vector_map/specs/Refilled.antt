@@ -25,10 +25,6 @@ module _ (K V : Type 0) where
   abbrev pub RefilledKeepsLength : Type 0
   RefilledKeepsLength = (m : Content K V) (xs : List V) → length (refilled m xs).pairs ≡ length m.pairs
 
-  -- where as many values are written as there are pairs, these are the values in turn
-  abbrev pub RefilledHasValues : Type 0
-  RefilledHasValues = (m : Content K V) (xs : List V) → length xs ≡ length m.pairs → map (λ p. p.1) (refilled m xs).pairs ≡ xs
-
 -- the map behind m ends with its keys, its spare, and the values that the loan of that name ends at
 abbrev pub lends_values : (K V : RattleType) (g : OrdMembers K.Denot) → MutBor (Content K.Denot V.Denot) → GName → Fml
 lends_values K V g m loan = follows (map_row K V g) (map_row K V g) m.ghost_name loan (λ w. refilled m.now (map (λ p. p.1) w.pairs))
