@@ -1,5 +1,5 @@
 -- A list that ascends, where each item gives way to an equal one.
-use Rattle.std.proofs.Common.{◌≡◌, true, List, [], ◌∷◌, refl, ◌∙◌}
+use Rattle.std.proofs.Common.{◌≡◌, Bool, true, List, [], ◌∷◌, refl, ◌∙◌}
 use Rattle.std.specs.declared.cmp.Ordering.{Ordering}
 use Rattle.std.specs.declared.cmp.Ordering.TheVariants.{Less, Equal, Greater}
 use Rattle.std.specs.Cmp.{IsTotalOrder}
@@ -7,6 +7,7 @@ use Rattle.std.specs.List.{AllByRecursion, AllZip}
 use Rattle.std.specs.List.Sorted.{IsStrictlySortedBy}
 use Rattle.std.specs.Ordering.{is_eq}
 use Rattle.std.proofs.lemmas.Cmp.{alike_right}
+use Rattle.sorted_vector_map.specs.Cloned.{ClonesAreEqual}
 
 pub equal_is : (r : Ordering) → is_eq r ≡ true → r ≡ Equal
 equal_is Less e = cc
@@ -27,3 +28,10 @@ module _ {A : Type 0} (cmp : A → A → Ordering) (order : IsTotalOrder cmp) (R
   equals_ascend [] (y ∷ ys) each a = absurd each
   equals_ascend (x ∷ xs) [] each a = absurd each
   equals_ascend (x ∷ xs) (y ∷ ys) each a = (stays_below x y each.0 xs ys each.1 a.0, equals_ascend xs ys each.1 a.1)
+
+module _ {K V : Type 0} (is_key_clone : K → K → Type 0) (is_value_clone : V → V → Type 0) (key_eq : K → K → Bool) (value_eq : V → V → Bool) where
+  pub clones_equal : ClonesAreEqual is_key_clone is_value_clone key_eq value_eq
+  clones_equal keys values [] [] each = refl
+  clones_equal keys values [] (q ∷ copies) each = absurd each
+  clones_equal keys values (p ∷ ps) [] each = absurd each
+  clones_equal keys values (p ∷ ps) (q ∷ copies) each = rw (keys p.0 q.0 each.0.0, values p.1 q.1 each.0.1) (clones_equal keys values ps copies each.1)

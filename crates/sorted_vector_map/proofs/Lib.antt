@@ -1,3 +1,4 @@
+pub mod PutLemmas
 pub mod RetainLemmas
 pub mod CloneLemmas
 pub mod ComingLemmas

@@ -47,6 +47,11 @@ module _ {K V : Type 0} {g : ord.Ghosts K} {g' : eq.Ghosts K} {g'' : partial.Gho
   after_writing (Vacant free) w = insert free.map.now.pairs free.at (free.key, w)
   after_writing (Occupied taken) w = set_value taken.map.now.pairs taken.at w
 
+  -- the same where w is given; the pairs as they are where none is
+  abbrev pub after_storing : Entry K V g g' g'' → Option V → List (K × V)
+  after_storing e None = (home e).now.pairs
+  after_storing e (Some w) = after_writing e w
+
   -- the pairs of the map, once none stands there
   abbrev pub after_removal : Entry K V g g' g'' → List (K × V)
   after_removal (Vacant free) = free.map.now.pairs

@@ -16,13 +16,14 @@ module _ {K V : Type 0} where
   abbrev pub refilled : Content K V → List V → Content K V
   refilled m xs = record { pairs = with_values m.pairs xs; spare = m.spare }
 
+module _ (K V : Type 0) where
   -- whatever values are written, the keys stay in their order
-  abbrev pub KeepsKeys : Content K V → Type 0
-  KeepsKeys m = (xs : List V) → map (λ p. p.0) (with_values m.pairs xs) ≡ map (λ p. p.0) m.pairs
+  abbrev pub RefilledKeepsKeys : Type 0
+  RefilledKeepsKeys = (m : Content K V) (xs : List V) → map (λ p. p.0) (refilled m xs).pairs ≡ map (λ p. p.0) m.pairs
 
   -- whatever values are written, the number of pairs stays
-  abbrev pub KeepsLength : Content K V → Type 0
-  KeepsLength m = (xs : List V) → length (with_values m.pairs xs) ≡ length m.pairs
+  abbrev pub RefilledKeepsLength : Type 0
+  RefilledKeepsLength = (m : Content K V) (xs : List V) → length (refilled m xs).pairs ≡ length m.pairs
 
 -- the map behind m ends with its keys, its spare, and the values that the loan of that name ends at
 abbrev pub lends_values : (K V : RattleType) (g : OrdMembers K.Denot) → MutBor (Content K.Denot V.Denot) → GName → Fml

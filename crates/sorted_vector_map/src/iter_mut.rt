@@ -9,7 +9,7 @@ ghost use Rattle.ordered_lists.specs.Lists.{by_key};
 ghost use Rattle.sorted_vector_map.specs.Bounds.{pairs_within, AreInOrder};
 ghost use Rattle.sorted_vector_map.specs.Hints.{IsExact};
 ghost use Rattle.sorted_vector_map.specs.Lending.{LendsFirstOf, LendsLastOf, ComesForWriting, deref_mut};
-ghost use Rattle.sorted_vector_map.specs.Refilled.{lends_values, KeepsKeys, KeepsLength};
+ghost use Rattle.sorted_vector_map.specs.Refilled.{lends_values};
 ghost use Rattle.sorted_vector_map.specs.Slots.{pair_of, cell_of};
 
 use crate::lent::Lent;
@@ -31,8 +31,6 @@ impl<K: Ord, V> SortedVectorMap<K, V> {
     /// ```
     pub fn iter_mut(&mut self) -> IterMut<'_, K, V>
         ensures* writes_back { sem 𝓛 (lends_values K.row V.row K.Ord self.entry result.loan) }
-        ensures keys { KeepsKeys self.old }
-        ensures len { KeepsLength self.old }
         ensures pairs { ComesForWriting deref_pair_mut self.old.pairs result.rest }
         ensures ascending { IsStrictlySortedBy (by_key K.cmp) self.old.pairs }
     {
@@ -43,8 +41,6 @@ impl<K: Ord, V> SortedVectorMap<K, V> {
     /// The values in the order of their keys, for writing. Made in O(1) time and without memory.
     pub fn values_mut(&mut self) -> ValuesMut<'_, K, V>
         ensures* writes_back { sem 𝓛 (lends_values K.row V.row K.Ord self.entry result.loan) }
-        ensures keys { KeepsKeys self.old }
-        ensures len { KeepsLength self.old }
         ensures values { ComesForWriting deref_mut (map (λ p. p.1) self.old.pairs) result.rest }
     {
         ValuesMut {
@@ -58,8 +54,6 @@ impl<K: Ord, V> SortedVectorMap<K, V> {
     pub fn range_mut(&mut self, low: Bound<&K>, high: Bound<&K>) -> IterMut<'_, K, V>
         requires { AreInOrder K.cmp (bound_map (λ k. k.now) low) (bound_map (λ k. k.now) high) }
         ensures* writes_back { sem 𝓛 (lends_values K.row V.row K.Ord self.entry result.loan) }
-        ensures keys { KeepsKeys self.old }
-        ensures len { KeepsLength self.old }
         ensures pairs { ComesForWriting deref_pair_mut (pairs_within K.cmp (bound_map (λ k. k.now) low.entry) (bound_map (λ k. k.now) high.entry) self.old.pairs) result.rest }
         ensures ascending { IsStrictlySortedBy (by_key K.cmp) self.old.pairs }
     {
@@ -81,8 +75,6 @@ impl<'map, K: Ord, V> IntoIterator for &'map mut SortedVectorMap<K, V> {
     fn into_iter(self) -> IterMut<'map, K, V>
         ensures* writes_back { sem 𝓛 (lends_values K.row V.row K.Ord self.entry result.loan) }
         ensures into_iter_gives { ComesForWriting deref_pair_mut self.old.pairs result.rest × IsStrictlySortedBy (by_key K.cmp) self.old.pairs }
-        ensures keys { KeepsKeys self.old }
-        ensures len { KeepsLength self.old }
     {
         self.iter_mut()
     }

@@ -1,6 +1,6 @@
-//! What is written through the iterators that lend values stands in the map, and a caller that keeps its keys.
-ghost use Rattle.std.specs.Prelude.{◌≡◌, length, map};
+//! What is written through the iterators that lend values stands in the map.
 
+use crate::callers::set_all;
 use crate::SortedVectorMap;
 use std::alloc::Global;
 use std::ops::Bound;
@@ -13,15 +13,6 @@ pub(crate) fn even_keys(alloc: Global) -> Result<SortedVectorMap<u32, u32>, Fail
         map.insert(half * 2, half * 200)?;
     }
     Ok(map)
-}
-
-fn set_all(prices: &mut SortedVectorMap<u32, u32>, price: u32)
-    ensures keys { map (λ p. p.0) prices.new.pairs ≡ map (λ p. p.0) prices.old.pairs }
-    ensures len { length prices.new.pairs ≡ length prices.old.pairs }
-{
-    for (_, value) in prices.iter_mut() {
-        *value = price;
-    }
 }
 
 #[test]

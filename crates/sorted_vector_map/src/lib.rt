@@ -4,6 +4,8 @@
 //! or taking one out, moves those behind it; many new pairs at once are merged in.
 #![tactic(auto)]
 
+#[cfg(test)]
+mod callers;
 mod compared;
 mod entry;
 mod grow;
@@ -11,6 +13,7 @@ mod iter_mut;
 #[cfg(test)]
 mod iter_mut_tests;
 mod iters;
+pub mod laws;
 mod lend;
 mod lent;
 mod look;

@@ -1,7 +1,8 @@
 //! The map: making one, putting pairs in, and taking them out.
-ghost use Rattle.std.specs.Prelude.{Some, ◌≡◌, ◌≤◌, ◌+◌, ◌==◌, [], length, IsTrue, IsOk, IfOk, IfErr, is_ok, if◌then◌else◌};
+ghost use Rattle.std.specs.Prelude.{Some, ◌≡◌, ◌≤◌, ◌+◌, ◌==◌, [], length, IsTrue, IsOk, IfOk, IfErr, OnOk, is_ok, if◌then◌else◌};
 ghost use Rattle.std.specs.Option.{option_map};
-ghost use Rattle.ordered_lists.specs.Lists.{to_key, find, has, put, take_out};
+ghost use Rattle.std.specs.List.Sorted.{IsStrictlySortedBy};
+ghost use Rattle.ordered_lists.specs.Lists.{by_key, to_key, find, has, put, take_out};
 
 use element_core::{NoMemory, Refused};
 use std::alloc::Global;
@@ -52,7 +53,8 @@ impl<K: Ord, V> SortedVectorMap<K, V> {
 
     /// The vector of the pairs, in ascending order of their keys. It takes O(1) time and no memory.
     pub fn into_inner(self) -> Vec<(K, V)>
-        ensures { result.items ≡ self.pairs }
+        ensures pairs { result.items ≡ self.pairs }
+        ensures ascending { IsStrictlySortedBy (by_key K.cmp) result.items }
     {
         self.items
     }
@@ -93,6 +95,8 @@ impl<K: Ord, V> SortedVectorMap<K, V> {
         K: Drop,
         ensures pairs { self.new.pairs ≡ (if is_ok result then put K.cmp self.old.pairs k v else self.old.pairs) }
         ensures replaced { IfOk result (λ old. old ≡ option_map (λ p. p.1) (find (to_key K.cmp) self.old.pairs k)) }
+        ensures found { OnOk result (IsTrue (has (to_key K.cmp) self.new.pairs k)) }
+        ensures holds { OnOk result (option_map (λ p. p.1) (find (to_key K.cmp) self.new.pairs k) ≡ Some v) }
         ensures given { IfErr result (λ refused. refused.given ≡ (k, v)) }
         ensures present { IsTrue (has (to_key K.cmp) self.old.pairs k) → IsOk result }
         ensures roomy { 1 ≤ self.old.spare → IsOk result }

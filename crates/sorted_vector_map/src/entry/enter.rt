@@ -1,5 +1,5 @@
 //! The calls of a map that answer an entry.
-ghost use Rattle.std.specs.Prelude.{Some, ◌≡◌, ◌≤◌, ◌<◌, ◌-◌, [], length, unwrap_or, IfSome, IfNone};
+ghost use Rattle.std.specs.Prelude.{Some, ◌≡◌, ◌≤◌, ◌<◌, ◌-◌, [], length, unwrap_or, IsTrue, IfSome, IfNone};
 ghost use Rattle.std.specs.Borrow.{sem};
 ghost use Rattle.std.specs.Option.{option_map};
 ghost use Rattle.ordered_lists.specs.Lists.{to_key, find, has, put, take_out};
@@ -19,6 +19,7 @@ impl<K: Ord, V> SortedVectorMap<K, V> {
         ensures key { HasKey result (unwrap_or (option_map (λ pair. pair.0) (find (to_key K.cmp) self.old.pairs key)) key) }
         ensures stored { stored result ≡ option_map (λ pair. pair.1) (find (to_key K.cmp) self.old.pairs key) }
         ensures written { (w : V) → after_writing result w ≡ put K.cmp self.old.pairs key w }
+        ensures found { (w : V) → IsTrue (has (to_key K.cmp) (after_writing result w) key) }
         ensures removed { after_removal result ≡ take_out (to_key K.cmp) self.old.pairs key }
     {
         match self.place_for(&key) {

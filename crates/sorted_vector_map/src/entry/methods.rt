@@ -3,7 +3,7 @@ ghost use Rattle.std.specs.Prelude.{◌≡◌, ◌≤◌, true, false, Some, unw
 ghost use Rattle.std.specs.Borrow.{sem, MutBor};
 ghost use Rattle.std.specs.Map.Calls.{ModifiesValue};
 ghost use Rattle.std.specs.Option.{UnwrapsOrElse};
-ghost use Rattle.sorted_vector_map.specs.Entry.{home, is_taken, HasKey, stored, IsSamePlace, writes_through_if_ok};
+ghost use Rattle.sorted_vector_map.specs.Entry.{home, is_taken, HasKey, stored, after_storing, IsSamePlace, writes_through_if_ok};
 
 use super::Entry;
 use element_core::Refused;
@@ -76,6 +76,7 @@ impl<'a, K: Ord, V> Entry<'a, K, V> {
         requires { (v : MutBor V) → stored self ≡ Some v.now → F.pre f v }
         ensures place { IsSamePlace self.entry result }
         ensures modified { ModifiesValue F.FnOnce f (stored self.entry) (stored result) }
+        ensures pairs { (home result).now.pairs ≡ after_storing self.entry (stored result) }
     {
         if let Entry::Occupied(taken) = &mut self {
             f(taken.get_mut());

@@ -1,5 +1,5 @@
-use Rattle.std.proofs.Common.{◌≡◌, Some, refl, ap, ◌∙◌}
-use Rattle.sorted_vector_map.specs.Entry.{stored}
+use Rattle.std.proofs.Common.{◌≡◌, Some, refl, sym, ap, ◌∙◌}
+use Rattle.sorted_vector_map.specs.Entry.{home, stored, after_storing}
 use Rattle.sorted_vector_map.proofs.EntryLemmas.{same_as_before, stays_in_place, stores}
 use Rattle.sorted_vector_map.proofs.entry.Entry.and_modify.Goals as goal
 use Rattle.sorted_vector_map.proofs.entry.Entry.and_modify.Goals.{in-Occupied, in_default}
@@ -17,5 +17,13 @@ returns-clause-modified g c = elim c.match-self.branch [
       let left : stored c.match-self.self ≡ Some w.f.new.arg2 = ap (λ e. stored e) w.self-is ∙ stores w.in-Occupied.taken w.f.new.arg2 in
       let now = record w.get_mut.result { now = w.f.new.arg2 } in
       rw (called, left) (record { lent = w.get_mut.result; result = w.f.result; left = now; before = refl; met = w.f.ensures; after = refl })
+  | in_default w ↦ rw (w.self-is, w.in_default.is) refl
+]
+
+pub returns-clause-pairs : goal.returns-clause-pairs
+returns-clause-pairs g c = elim c.match-self.branch [
+  | in-Occupied w ↦
+      let left : stored c.match-self.self ≡ Some w.f.new.arg2 = ap (λ e. stored e) w.self-is ∙ stores w.in-Occupied.taken w.f.new.arg2 in
+      rw left (ap (λ e. (home e).now.pairs) w.self-is ∙ sym (ap (λ e. after_storing e (Some w.f.new.arg2)) w.in-Occupied.is))
   | in_default w ↦ rw (w.self-is, w.in_default.is) refl
 ]

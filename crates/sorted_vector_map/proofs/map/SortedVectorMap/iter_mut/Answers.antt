@@ -3,7 +3,6 @@ use Rattle.std.proofs.Common.{refl, sym, ap, map, arith, ◌∙◌}
 use Rattle.std.specs.Map.Iter.{deref_pair_mut}
 use Rattle.sorted_vector_map.specs.Slots.{pair_of}
 use Rattle.sorted_vector_map.proofs.LendingRuns.{comes_for_writing}
-use Rattle.sorted_vector_map.proofs.RefillLemmas.{keys-with_values, length-with_values}
 use Rattle.sorted_vector_map.proofs.map.SortedVectorMap.iter_mut.Goals as goal
 
 pub returns : goal.returns
@@ -12,8 +11,6 @@ returns g c =
       (sym c.new.ensures.loan, λ w. refl),
       record {
         writes_back = tt;
-        keys = keys-with_values pairs;
-        len = length-with_values pairs;
         pairs =
             comes_for_writing deref_pair_mut _ _ (c.new.ensures.rest ∙ ap (map pair_of) c.deref.ensures.value ∙ lent.pairs)
             (omega (arith, ap length c.new.ensures.rest, length-map slots pair_of, c.deref.ensures.len, vec.ok.1, vec.small));

@@ -6,7 +6,6 @@ use Rattle.std.proofs.lemmas.List.{length-take, length-drop}
 use Rattle.ordered_lists.proofs.CutLemmas.{cut_between}
 use Rattle.sorted_vector_map.specs.Slots.{pair_of, cell_of}
 use Rattle.sorted_vector_map.proofs.LendingRuns.{comes_for_writing}
-use Rattle.sorted_vector_map.proofs.RefillLemmas.{keys-with_values, length-with_values}
 use Rattle.sorted_vector_map.proofs.map.SortedVectorMap.range_mut.Goals as goal
 
 -- a part of a list, and the images of its items
@@ -29,8 +28,6 @@ returns g c =
       (sym (c.new.ensures.loan ∙ c.narrow.ensures.tie), λ w. refl),
       record {
         writes_back = tt;
-        keys = keys-with_values pairs;
-        len = length-with_values pairs;
         pairs =
             comes_for_writing deref_pair_mut _ _ (c.new.ensures.rest ∙ part ∙ cut_between _ _ _ _ _ c.start_of-start.ensures c.end_of.ensures)
             (omega (arith, ap length c.new.ensures.rest, length-map cut pair_of, length-take n (drop start slots), length-drop start slots, c.deref.ensures.len, vec.ok.1, vec.small));

@@ -10,8 +10,6 @@ returns g c =
       (refl, λ w. refl),
       record {
         writes_back = tt;
-        keys = pairs.keys;
-        len = pairs.len;
         values = comes_for_writing deref_mut _ _ (ap (map (λ p. p.1)) pairs.pairs.all) (rw (length-map c.iter_mut.result.rest (λ p. p.1)) pairs.pairs.countable);
       },
     )

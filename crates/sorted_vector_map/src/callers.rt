@@ -1,0 +1,85 @@
+//! What a caller does next: a key that was put in is read, a clone is equal, and keys stay.
+ghost use Rattle.std.specs.Prelude.{◌≡◌, true, length, map, IfOk};
+
+use crate::laws::{clones_are_equal, refilled_keeps_keys, refilled_keeps_length};
+use crate::{Entry, NoMemory, Refused, SortedVectorMap};
+use std::alloc::Global;
+
+/// The value that was put in, read at its key.
+pub(crate) fn put_and_read<K: Ord + Copy + Drop>(
+    ages: &mut SortedVectorMap<K, u32>,
+    key: K,
+    age: u32,
+) -> Result<u32, Refused<(K, u32)>>
+    ensures { IfOk result (λ read. read ≡ age) }
+{
+    ages.insert(key, age)?;
+    Ok(*ages.index(&key))
+}
+
+/// The value at a key, which `or_insert` puts in where it is missing.
+pub(crate) fn read_or_insert<K: Ord + Copy + Drop>(
+    ages: &mut SortedVectorMap<K, u32>,
+    key: K,
+    age: u32,
+) -> Result<u32, Refused<(K, u32)>> {
+    ages.entry(key).or_insert(age)?;
+    Ok(*ages.index(&key))
+}
+
+/// The same by `or_insert_with`.
+pub(crate) fn read_or_insert_with<K: Ord + Copy + Drop>(
+    ages: &mut SortedVectorMap<K, u32>,
+    key: K,
+    age: u32,
+) -> Result<u32, Refused<(K, u32)>> {
+    ages.entry(key).or_insert_with(|| age)?;
+    Ok(*ages.index(&key))
+}
+
+/// The same by `or_default`.
+pub(crate) fn read_or_default<K: Ord + Copy + Drop>(
+    ages: &mut SortedVectorMap<K, u32>,
+    key: K,
+) -> Result<u32, Refused<(K, u32)>> {
+    ages.entry(key).or_default()?;
+    Ok(*ages.index(&key))
+}
+
+/// The same by `VacantEntry::insert`.
+pub(crate) fn read_or_fill<K: Ord + Copy + Drop>(
+    ages: &mut SortedVectorMap<K, u32>,
+    key: K,
+    age: u32,
+) -> Result<u32, Refused<(K, u32)>> {
+    if let Entry::Vacant(free) = ages.entry(key) {
+        free.insert(age)?;
+    }
+    Ok(*ages.index(&key))
+}
+
+/// Whether a clone of the map is equal to it, which it is where clones of values are.
+pub(crate) fn clone_is_equal<K: Ord + Clone + Drop, V: PartialEq + Clone + Drop>(
+    alloc: Global,
+    stock: &SortedVectorMap<K, V>,
+) -> Result<bool, NoMemory>
+    requires keys { (key copy : K) → K.is_clone key copy → K.eq copy key ≡ true }
+    requires values { (value copy : V) → V.is_clone value copy → V.eq copy value ≡ true }
+    ensures { IfOk result (λ equal. equal ≡ true) }
+{
+    clones_are_equal::<K, V>();
+    let copy = stock.try_clone(alloc)?;
+    Ok(copy == *stock)
+}
+
+/// Writes one price for all: the keys stay, and their number.
+pub(crate) fn set_all(prices: &mut SortedVectorMap<u32, u32>, price: u32)
+    ensures keys { map (λ p. p.0) prices.new.pairs ≡ map (λ p. p.0) prices.old.pairs }
+    ensures len { length prices.new.pairs ≡ length prices.old.pairs }
+{
+    refilled_keeps_keys::<u32, u32>();
+    refilled_keeps_length::<u32, u32>();
+    for (_, value) in prices.iter_mut() {
+        *value = price;
+    }
+}
