@@ -171,7 +171,7 @@ fn the_first_of_equal_touching_groups_stays(rt: HostRuntime) -> Result<(), Fail>
     let groups = map.group(rt.alloc())?;
     assert!(rt; groups.num_ranges() == 1);
     let group = groups.get(255).expect(&rt, "every key has a group");
-    assert!(rt; matches!(group.as_slice(), [Name { letter: 7, line: 1 }]));
+    assert!(rt; group.as_slice().first().map(|name| name.line) == Some(1));
     Ok(())
 }
 
