@@ -25,7 +25,7 @@ returns-else-count-ge1 c =
     λ lines h.
     let same = count_of_read c.args.word.now c.in_ok-count.count lines e h in
     elim c.else-count-ge1.branch [
-      else-count-ge1-via-then-count-ge1+else-count-le1000 w ↦
+      | else-count-ge1-via-then-count-ge1+else-count-le1000 w ↦
           not_past lines same.2 (rw (whole, same.0) at w.if-count-le1000.false)
-    | else-count-ge1-via-else-count-ge1 w ↦ not_before lines same.1 (rw (whole, same.0) at w.if-count-ge1.false)
+      | else-count-ge1-via-else-count-ge1 w ↦ not_before lines same.1 (rw (whole, same.0) at w.if-count-ge1.false)
     ]
