@@ -21,7 +21,8 @@ judge_word known line word depth (Some (Number n)) = Depth (depth + 1)
 judge_word known line word depth (Some (Span s e)) = if int_lt e s then Fault (Reversed line word) else Depth (depth + 1)
 judge_word known line word depth (Some Empty) = Depth (depth + 1)
 judge_word known line word depth (Some Full) = Depth (depth + 1)
-judge_word known line word depth (Some (Name name)) = if list_any (λ n. bytes_eq n name) known then Depth (depth + 1) else Fault (UnknownName line word)
+judge_word known line word depth (Some (Name name)) =
+    if list_any (λ n. bytes_eq n name) known then Depth (depth + 1) else Fault (UnknownName line word)
 judge_word known line word depth (Some Not) = operator line word 1 depth
 judge_word known line word depth (Some Or) = operator line word 2 depth
 judge_word known line word depth (Some And) = operator line word 2 depth

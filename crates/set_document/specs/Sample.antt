@@ -1,5 +1,5 @@
--- The sample text of so many lines, and the counts of an answer. Each line of the sample takes 26 numbers from ten times its place on, and most
--- lines take the set of the line before.
+-- The sample text of so many lines, and the counts of an answer. Each line of the sample takes 26 numbers from ten times its place
+-- on, and most lines take the set of the line before.
 use Rattle.std.specs.Prelude.{ℕ, zero, suc, ◌+◌, ◌-◌, ◌*◌, ◌/◌, ◌%◌, ◌==◌, pos, if◌then◌else◌, List, [], ◌∷◌, ◌++◌, codes, length, sum_by}
 use Rattle.std.specs.Fmt.{decimal}
 use Rattle.set_document.specs.Answer.{range_text, Shape, shape, printed}

@@ -12,11 +12,13 @@ use Rattle.set_document.specs.declared.fault.AlgebraError.TheVariants as fault
 
 -- the stack after a word is what the word makes of it, at each number of the type, whatever the earlier lines give there
 abbrev pub IsStep : Option Kind → List (List (ℤ × ℤ)) → List (List (ℤ × ℤ)) → Type 0
-IsStep word before after = (earlier : List (List ℕ × Bool)) (x : ℤ) → least ≤ℤ x → x ≤ℤ greatest → values after x ≡ after_word earlier x (values before x) word
+IsStep word before after = (earlier : List (List ℕ × Bool)) (x : ℤ) → least ≤ℤ x → x ≤ℤ greatest
+    → values after x ≡ after_word earlier x (values before x) word
 
 -- the same after these lines
 abbrev pub IsStepAfter : Lines → Option Kind → List (List (ℤ × ℤ)) → List (List (ℤ × ℤ)) → Type 0
-IsStepAfter lines word before after = (x : ℤ) → least ≤ℤ x → x ≤ℤ greatest → values after x ≡ after_word (at lines x) x (values before x) word
+IsStepAfter lines word before after = (x : ℤ) → least ≤ℤ x → x ≤ℤ greatest
+    → values after x ≡ after_word (at lines x) x (values before x) word
 
 -- the word of an operator of two sets
 abbrev pub kind_of : Operator → Kind

@@ -75,7 +75,9 @@ span_from (Some s) (Some e) = Some (Span s e)
 -- two numbers with `..=` between them
 abbrev pub span : List ℕ → Option Kind
 span piece =
-    if bytes_eq (take 3 (from_dot piece)) (codes "..=") then span_from (number (before_dot piece)) (number (drop 3 (from_dot piece))) else None
+    if bytes_eq (take 3 (from_dot piece)) (codes "..=")
+    then span_from (number (before_dot piece)) (number (drop 3 (from_dot piece)))
+    else None
 
 abbrev pub number_or_span : List ℕ → Option Kind
 number_or_span piece = elim (number piece) [ Some n ↦ Some (Number n) | None ↦ span piece ]

@@ -18,10 +18,11 @@ use sorted_vector_map::SortedVectorMap;
 use std::alloc::Global;
 use std::marker::Model;
 
-/// What a document says: each named line's name and set, in the order of the lines, and the rows of its table.
+/// What a document says: each named line's name and set, in the order of the lines, and the rows of
+/// its table.
 ///
-/// Contracts see an answer as its `Shape`: the lines as names with their ranges, the distinct names in the order of
-/// their bytes, and the rows with the places of the names that hold there.
+/// Contracts see an answer as its `Shape`: the lines as names with their ranges, the distinct names
+/// in the order of their bytes, and the rows with the places of the names that hold there.
 #[derive(Drop)]
 pub struct Answer<'t> {
     done: NamedLines<'t>,
@@ -44,7 +45,8 @@ impl<'t> Model for Answer<'t> {
       rows = tabled answer.table.groups answer.table.slots;
     } };
 
-    ghost invariant = { λ answer. IsIndex (names_of answer.done.lines.items) answer.done.latest.pairs };
+    ghost invariant = { λ answer. IsIndex
+        (names_of answer.done.lines.items) answer.done.latest.pairs };
 }
 
 impl<'t> Answer<'t> {
@@ -55,8 +57,8 @@ impl<'t> Answer<'t> {
         self.done.lines.len()
     }
 
-    /// The number of ranges of all lines together, or `usize::MAX` where there are more. O(n) in the number of
-    /// lines, and takes no memory.
+    /// The number of ranges of all lines together, or `usize::MAX` where there are more. O(n) in
+    /// the number of lines, and takes no memory.
     pub fn num_ranges(&self) -> usize
         ensures { result ≡ min (sum_by (λ l. length l.1) self.now.lines) usize.MAX }
     {
@@ -67,8 +69,8 @@ impl<'t> Answer<'t> {
         total
     }
 
-    /// The name and the set of a named line, which count from 0 in the order of the lines, or `None` from the
-    /// number of lines on. O(1), and takes no memory.
+    /// The name and the set of a named line, which count from 0 in the order of the lines, or
+    /// `None` from the number of lines on. O(1), and takes no memory.
     pub fn line(&self, index: usize) -> Option<(Name<'t>, &RangeSet<i64>)>
         ensures { option_map (λ l. (letters l.0, l.1.now)) result ≡ slice_get self.now.lines index }
     {
@@ -83,16 +85,17 @@ impl<'t> Answer<'t> {
         self.table.num_rows()
     }
 
-    /// The numbers of a row, which count from 0, and the positions of the names that hold there, ascending, as
-    /// `name` takes them. `None` from the number of rows on. O(1), and takes no memory.
+    /// The numbers of a row, which count from 0, and the positions of the names that hold there,
+    /// ascending, as `name` takes them. `None` from the number of rows on. O(1), and takes no
+    /// memory.
     pub fn row(&self, index: usize) -> Option<(Range<i64>, &[usize])>
         ensures { option_map (λ row. (row.0, row.1.now)) result ≡ slice_get self.now.rows index }
     {
         self.table.row(index)
     }
 
-    /// The name at a position among the distinct names in the order of their bytes, from 0, or `None` from their
-    /// number on. O(1), and takes no memory.
+    /// The name at a position among the distinct names in the order of their bytes, from 0, or
+    /// `None` from their number on. O(1), and takes no memory.
     pub fn name(&self, position: usize) -> Option<Name<'t>>
         ensures { option_map letters result ≡ slice_get self.now.names position }
     {
@@ -100,20 +103,23 @@ impl<'t> Answer<'t> {
         Some(*name)
     }
 
-    /// The distinct names in the order of their bytes, each with the index of its last line, as `line` takes it.
-    /// O(1), and takes no memory.
+    /// The distinct names in the order of their bytes, each with the index of its last line, as
+    /// `line` takes it. O(1), and takes no memory.
     pub fn names(&self) -> &SortedVectorMap<Name<'t>, usize>
         ensures names { map (λ p. letters p.0) result.now.pairs ≡ self.now.names }
-        ensures places { map (λ p. (letters p.0, Some p.1)) result.now.pairs ≡ with_last_places (map (λ l. l.0) self.now.lines) }
+        ensures places { map (λ p. (letters p.0, Some p.1)) result.now.pairs ≡ with_last_places
+            (map (λ l. l.0) self.now.lines) }
     {
         &self.done.latest
     }
 
-    /// The bytes of the answer: for each named line its name, a colon, a space, its ranges and a line feed, and then
-    /// for each row `#`, a space, its numbers as a range, each name that holds there after a space, and a line feed.
+    /// The bytes of the answer: for each named line its name, a colon, a space, its ranges and a
+    /// line feed, and then for each row `#`, a space, its numbers as a range, each name that holds
+    /// there after a space, and a line feed.
     ///
-    /// The ranges of a line are `empty`, or the first as `1..=3`, and for each further one a space, the range, a space
-    /// and `|`, so that the line is read again as the same set, and a row as a comment. O(n) in the bytes written.
+    /// The ranges of a line are `empty`, or the first as `1..=3`, and for each further one a space,
+    /// the range, a space and `|`, so that the line is read again as the same set, and a row as a
+    /// comment. O(n) in the bytes written.
     pub fn print(&self, alloc: Global) -> Result<Vec<u8>, NoMemory>
         ensures { IfOk result (λ bytes. bytes.items ≡ printed self.now) }
     {
@@ -126,9 +132,10 @@ impl<'t> Answer<'t> {
 
 /// The answer of a document, or its first fault.
 ///
-/// Lines are judged in order, in a line its form first, then its words from the left, and last the number of sets
-/// that they leave. One pass over the text; each word costs the ranges of the sets that it takes and leaves. The table
-/// is made by a sweep over the bounds of all ranges of the names' last lines, with a list of names for each stretch.
+/// Lines are judged in order, in a line its form first, then its words from the left, and last the
+/// number of sets that they leave. One pass over the text; each word costs the ranges of the sets
+/// that it takes and leaves. The table is made by a sweep over the bounds of all ranges of the
+/// names' last lines, with a list of names for each stretch.
 pub fn evaluate<'t>(alloc: Global, text: &'t [u8]) -> Result<Answer<'t>, AlgebraError>
     ensures well_formed { OnOk result (IsWellFormed text.now) }
     ensures shape { IfOk result (λ answer. answer ≡ shape text.now) }
@@ -139,7 +146,8 @@ pub fn evaluate<'t>(alloc: Global, text: &'t [u8]) -> Result<Answer<'t>, Algebra
     Ok(Answer { done, table })
 }
 
-/// The bytes of the answer of a document, or its first fault. It costs as `evaluate` and `Answer::print` together.
+/// The bytes of the answer of a document, or its first fault. It costs as `evaluate` and
+/// `Answer::print` together.
 pub fn evaluate_document(alloc: Global, text: &[u8]) -> Result<Vec<u8>, AlgebraError>
     ensures well_formed { OnOk result (IsWellFormed text.now) }
     ensures answer { IfOk result (λ bytes. bytes.items ≡ answer text.now) }

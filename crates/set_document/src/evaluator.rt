@@ -29,7 +29,8 @@ fn push_set(stack: &mut Vec<RangeSet<i64>>, set: RangeSet<i64>) -> Result<(), Al
 
 // The last set and the one before it, taken off the stack. Where there is one alone it is gone.
 fn pop_two(stack: &mut Vec<RangeSet<i64>>) -> Option<(RangeSet<i64>, RangeSet<i64>)>
-    ensures { MatchOption result (length stack.old.items < 2) (λ p. stack.old.items ≡ stack.new.items ++ p.0 ∷ p.1 ∷ []) }
+    ensures { MatchOption result (length stack.old.items < 2)
+        (λ p. stack.old.items ≡ stack.new.items ++ p.0 ∷ p.1 ∷ []) }
 {
     let second = stack.pop()?;
     let first = stack.pop()?;
@@ -43,9 +44,12 @@ fn apply_not(
     line: usize,
     word: usize,
 ) -> Result<(), AlgebraError>
-    ensures depth { OnOk result (judge_word [] line word (length stack.old.items) (Some Not) ≡ Depth (length stack.new.items)) }
+    ensures depth { OnOk result
+        (judge_word [] line word (length stack.old.items) (Some Not)
+        ≡ Depth (length stack.new.items)) }
     ensures step { OnOk result (IsStep (Some Not) stack.old.items stack.new.items) }
-    ensures fault { IfErr result (IsFault (judge_word [] line word (length stack.old.items) (Some Not))) }
+    ensures fault { IfErr result
+        (IsFault (judge_word [] line word (length stack.old.items) (Some Not))) }
 {
     let Some(set) = stack.pop() else {
         return Err(AlgebraError::StackShort { line, word });
@@ -70,9 +74,12 @@ fn apply_two(
     word: usize,
     operator: Operator,
 ) -> Result<(), AlgebraError>
-    ensures depth { OnOk result (judge_word [] line word (length stack.old.items) (Some (kind_of operator)) ≡ Depth (length stack.new.items)) }
+    ensures depth { OnOk result
+        (judge_word [] line word (length stack.old.items) (Some (kind_of operator))
+        ≡ Depth (length stack.new.items)) }
     ensures step { OnOk result (IsStep (Some (kind_of operator)) stack.old.items stack.new.items) }
-    ensures fault { IfErr result (IsFault (judge_word [] line word (length stack.old.items) (Some (kind_of operator)))) }
+    ensures fault { IfErr result
+        (IsFault (judge_word [] line word (length stack.old.items) (Some (kind_of operator)))) }
 {
     let Some((first, second)) = pop_two(stack) else {
         return Err(AlgebraError::StackShort { line, word });
@@ -96,9 +103,16 @@ fn apply_word<'t>(
     found: Option<Word<'t>>,
 ) -> Result<(), AlgebraError>
     requires indexed { IsIndex (names_of done.now.lines.items) done.now.latest.pairs }
-    ensures depth { OnOk result (judge_word (names_of done.now.lines.items) line word (length stack.old.items) (option_map shown found.entry) ≡ Depth (length stack.new.items)) }
-    ensures step { OnOk result (IsStepAfter (lines_of done.now.lines.items) (option_map shown found.entry) stack.old.items stack.new.items) }
-    ensures fault { IfErr result (IsFault (judge_word (names_of done.now.lines.items) line word (length stack.old.items) (option_map shown found.entry))) }
+    ensures depth { OnOk result
+        (judge_word (names_of done.now.lines.items) line word (length stack.old.items)
+        (option_map shown found.entry)
+        ≡ Depth (length stack.new.items)) }
+    ensures step { OnOk result
+        (IsStepAfter (lines_of done.now.lines.items) (option_map shown found.entry)
+        stack.old.items stack.new.items) }
+    ensures fault { IfErr result
+        (IsFault (judge_word (names_of done.now.lines.items) line word (length stack.old.items)
+        (option_map shown found.entry))) }
 {
     match found {
         Some(Word::Number(n)) => push_set(stack, RangeSet::single(alloc, n)?),
@@ -134,11 +148,16 @@ fn evaluate_words<'t>(
     rest: Option<&'t [u8]>,
 ) -> Result<RangeSet<i64>, AlgebraError>
     requires indexed { IsIndex (names_of done.now.lines.items) done.now.latest.pairs }
-    ensures fault_free { OnOk result (fault_in_words (names_of done.now.lines.items) line 1 0 (words (option_copied rest.entry)) ≡ None) }
+    ensures fault_free { OnOk result
+        (fault_in_words (names_of done.now.lines.items) line 1 0 (words (option_copied rest.entry))
+        ≡ None) }
     ensures canonical { IfOk result (IsCanonical least greatest) }
     ensures truth { IfOk result (λ s. (x : ℤ) → least ≤ℤ x → x ≤ℤ greatest
         → holds s x ≡ truth (lines_of done.now.lines.items) (words (option_copied rest.entry)) x) }
-    ensures fault { IfErr result (IsFirstFault (fault_in_words (names_of done.now.lines.items) line 1 0 (words (option_copied rest.entry)))) }
+    ensures fault { IfErr result
+        (IsFirstFault
+        (fault_in_words (names_of done.now.lines.items) line 1 0
+        (words (option_copied rest.entry)))) }
 {
     let mut stack: Vec<RangeSet<i64>> = Vec::new(alloc);
     let mut left = rest;
@@ -167,12 +186,19 @@ fn add_line<'t>(
     piece: &'t [u8],
 ) -> Result<(), AlgebraError>
     requires indexed { IsIndex (names_of done.old.lines.items) done.old.latest.pairs }
-    ensures fault_free { OnOk result (fault_in_form (names_of done.old.lines.items) line (form piece.now) ≡ None) }
-    ensures names { OnOk result (names_of done.new.lines.items ≡ names_after (names_of done.old.lines.items) (form piece.now)) }
-    ensures lines { OnOk result (Agree (lines_of done.new.lines.items) (after_form (lines_of done.old.lines.items) (form piece.now))) }
-    ensures canonical { AllCanonical done.old.lines.items → OnOk result (AllCanonical done.new.lines.items) }
+    ensures fault_free { OnOk result
+        (fault_in_form (names_of done.old.lines.items) line (form piece.now) ≡ None) }
+    ensures names { OnOk result
+        (names_of done.new.lines.items ≡ names_after (names_of done.old.lines.items)
+        (form piece.now)) }
+    ensures lines { OnOk result
+        (Agree (lines_of done.new.lines.items)
+        (after_form (lines_of done.old.lines.items) (form piece.now))) }
+    ensures canonical { AllCanonical done.old.lines.items → OnOk result
+        (AllCanonical done.new.lines.items) }
     ensures indexed { OnOk result (IsIndex (names_of done.new.lines.items) done.new.latest.pairs) }
-    ensures fault { IfErr result (IsFirstFault (fault_in_form (names_of done.old.lines.items) line (form piece.now))) }
+    ensures fault { IfErr result
+        (IsFirstFault (fault_in_form (names_of done.old.lines.items) line (form piece.now))) }
 {
     match read_line(piece) {
         LineForm::Comment => Ok(()),

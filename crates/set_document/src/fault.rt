@@ -8,8 +8,8 @@ use std::alloc::{AllocError, AllocFailed};
 use std::error::Error;
 use std::fmt;
 
-/// Why a document has no answer: its first fault, or want of memory. Lines count from 1, comments included, and
-/// words from 1 in their line.
+/// Why a document has no answer: its first fault, or want of memory. Lines count from 1, comments
+/// included, and words from 1 in their line.
 ///
 /// It is written as its place and its name, as `line 2, word 1: bad word`.
 #[derive(Clone, Copy, Debug, PartialEq, Eq)]

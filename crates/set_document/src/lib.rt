@@ -1,8 +1,8 @@
 //! A document of named sets: its lines and words, what they mean, its first fault, and its answer.
 //!
-//! A document is bytes. Each line that isn't a comment gives a name to a set of `i64` numbers, written as words
-//! in postfix order: `a: 1..=5 4..=8 |`. The answer writes each named set as ascending ranges, and then a table of
-//! which names hold where.
+//! A document is bytes. Each line that isn't a comment gives a name to a set of `i64` numbers,
+//! written as words in postfix order: `a: 1..=5 4..=8 |`. The answer writes each named set as
+//! ascending ranges, and then a table of which names hold where.
 #![tactic(auto)]
 
 mod answer;

@@ -12,8 +12,8 @@ use crate::word::{Name, first_place, is_letters};
 pub enum LineForm<'t> {
     /// A line that begins with `#` and ends with its line feed.
     Comment,
-    /// A name and a colon, and the bytes behind the colon's space without the line feed: `None` where the line
-    /// ends after the colon.
+    /// A name and a colon, and the bytes behind the colon's space without the line feed: `None`
+    /// where the line ends after the colon.
     Named(Name<'t>, Option<&'t [u8]>),
     /// Every other line.
     Bad,
@@ -21,7 +21,8 @@ pub enum LineForm<'t> {
 
 // The first piece between single spaces, and what follows the space behind it.
 pub(crate) fn cut_piece<'t>(bytes: &'t [u8]) -> (&'t [u8], Option<&'t [u8]>)
-    ensures cut { slice_split (λ b. b == 32) bytes.now ≡ result.0.now ∷ words (option_copied result.1) }
+    ensures cut { slice_split (λ b. b == 32) bytes.now ≡ result.0.now ∷ words
+        (option_copied result.1) }
     ensures shorter { left_len (option_copied result.1) ≤ length bytes.now }
 {
     let at = first_place(bytes, b' ');
@@ -94,8 +95,9 @@ fn read_body<'t>(body: &'t [u8]) -> LineForm<'t>
     }
 }
 
-/// The form of one line, given with its line feed where it has one. A name is one or more letters of `a` to `z`,
-/// and not `empty` or `full`. Any bytes may be handed in: what is no comment and no named line is bad.
+/// The form of one line, given with its line feed where it has one. A name is one or more letters
+/// of `a` to `z`, and not `empty` or `full`. Any bytes may be handed in: what is no comment and no
+/// named line is bad.
 ///
 /// O(n) in the length of the name, and takes no memory.
 pub fn read_line<'t>(piece: &'t [u8]) -> LineForm<'t>

@@ -41,8 +41,10 @@ impl<'t> NamedLines<'t> {
     // The set of the latest line of that name.
     pub(crate) fn latest_set(&self, name: &Name<'t>) -> Option<&RangeSet<i64>>
         requires indexed { IsIndex (names_of self.now.lines.items) self.now.latest.pairs }
-        ensures truth { (x : ℤ) → option_map (λ set. holds set.now x) result ≡ latest (at (lines_of self.now.lines.items) x) (letters name.now) }
-        ensures known { is_some result ≡ list_any (λ n. bytes_eq n (letters name.now)) (names_of self.now.lines.items) }
+        ensures truth { (x : ℤ) → option_map (λ set. holds set.now x) result ≡ latest
+            (at (lines_of self.now.lines.items) x) (letters name.now) }
+        ensures known { is_some result ≡ list_any (λ n. bytes_eq n (letters name.now))
+            (names_of self.now.lines.items) }
     {
         let place = self.latest.get(name)?;
         let line = self.lines.get(*place)?;
@@ -52,8 +54,11 @@ impl<'t> NamedLines<'t> {
     // Puts one more line behind the others.
     pub(crate) fn push(&mut self, name: Name<'t>, set: RangeSet<i64>) -> Result<(), NoMemory>
         requires indexed { IsIndex (names_of self.old.lines.items) self.old.latest.pairs }
-        ensures lines { OnOk result (self.new.lines.items ≡ self.old.lines.items ++ record { name = name.entry; set = set } ∷ []) }
-        ensures indexed { OnOk result (IsIndex (names_of self.new.lines.items) self.new.latest.pairs) }
+        ensures lines { OnOk result
+            (self.new.lines.items ≡ self.old.lines.items
+            ++ record { name = name.entry; set = set } ∷ []) }
+        ensures indexed { OnOk result
+            (IsIndex (names_of self.new.lines.items) self.new.latest.pairs) }
     {
         let place = self.lines.len();
         self.lines.push(Line { name, set })?;

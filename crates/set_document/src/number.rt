@@ -39,8 +39,8 @@ fn has_number_form(piece: &[u8]) -> bool
     }
 }
 
-/// The number that a piece writes, where it is an `i64` in its one form: `0`, or an optional `-`, a digit 1 to 9 and
-/// further digits. O(n), and takes no memory.
+/// The number that a piece writes, where it is an `i64` in its one form: `0`, or an optional `-`, a
+/// digit 1 to 9 and further digits. O(n), and takes no memory.
 pub fn read_number(piece: &[u8]) -> Option<i64>
     ensures { result ≡ number piece.now }
 {

@@ -47,7 +47,8 @@ fn push_list(out: &mut Vec<u8>, set: &RangeSet<i64>) -> Result<(), NoMemory>
 
 // Writes a line: its name, and the ranges of its set.
 pub(crate) fn push_line(out: &mut Vec<u8>, line: &Line<'_>) -> Result<(), NoMemory>
-    ensures { OnOk result (out.new.items ≡ out.old.items ++ line_text (letters line.now.name, line.now.set)) }
+    ensures { OnOk result
+        (out.new.items ≡ out.old.items ++ line_text (letters line.now.name, line.now.set)) }
 {
     out.extend_from_slice(line.name.as_bytes())?;
     out.extend_from_slice(b": ")?;
@@ -72,7 +73,9 @@ fn push_name(
     names: &SortedVectorMap<Name<'_>, usize>,
     position: usize,
 ) -> Result<(), NoMemory>
-    ensures { OnOk result (out.new.items ≡ out.old.items ++ name_text (map (λ p. letters p.0) names.now.pairs) position) }
+    ensures { OnOk result
+        (out.new.items ≡ out.old.items ++ name_text
+        (map (λ p. letters p.0) names.now.pairs) position) }
 {
     let Some((name, _)) = names.get_key_value_at_index(position) else {
         return Ok(());
@@ -89,7 +92,9 @@ fn push_row(
     range: &Range<i64>,
     held: &[usize],
 ) -> Result<(), NoMemory>
-    ensures { OnOk result (out.new.items ≡ out.old.items ++ row_text (map (λ p. letters p.0) names.now.pairs) (range.now, held.now)) }
+    ensures { OnOk result
+        (out.new.items ≡ out.old.items ++ row_text (map (λ p. letters p.0) names.now.pairs)
+        (range.now, held.now)) }
 {
     out.extend_from_slice(b"# ")?;
     push_range(out, range)?;
@@ -106,7 +111,9 @@ pub(crate) fn push_rows(
     names: &SortedVectorMap<Name<'_>, usize>,
     table: &Table,
 ) -> Result<(), NoMemory>
-    ensures { OnOk result (out.new.items ≡ out.old.items ++ rows_text (map (λ p. letters p.0) names.now.pairs) (tabled table.now.groups table.now.slots)) }
+    ensures { OnOk result
+        (out.new.items ≡ out.old.items ++ rows_text (map (λ p. letters p.0) names.now.pairs)
+        (tabled table.now.groups table.now.slots)) }
 {
     for (range, slot) in table.slots.range_values() {
         push_row(out, names, range, table.held_in(*slot))?;

@@ -18,7 +18,8 @@ use range_map::{Range, RangeMap, RangeSet};
 use range_multimap::{Group, RangeMultiMap};
 use std::alloc::Global;
 
-/// The names that hold at the same numbers, grouped, and the slot of each number: the place of its group, or none.
+/// The names that hold at the same numbers, grouped, and the slot of each number: the place of its
+/// group, or none.
 #[derive(Drop)]
 pub(crate) struct Table {
     pub(crate) groups: RangeMap<i64, Group<usize>>,
@@ -34,7 +35,8 @@ impl Table {
 
     // The numbers of a row, and the places of the names that hold there.
     pub(crate) fn row(&self, index: usize) -> Option<(Range<i64>, &[usize])>
-        ensures { option_map (λ row. (row.0, row.1.now)) result ≡ slice_get (tabled self.now.groups self.now.slots) index }
+        ensures { option_map (λ row. (row.0, row.1.now)) result ≡ slice_get
+            (tabled self.now.groups self.now.slots) index }
     {
         let (range, slot) = self.slots.range_values().as_slice().get(index)?;
         Some((*range, self.held_in(*slot)))
@@ -72,7 +74,8 @@ fn push_ranges(
 fn gather(alloc: Global, done: &NamedLines<'_>) -> Result<RangeMultiMap<i64, usize>, NoMemory>
     requires indexed { IsIndex (names_of done.now.lines.items) done.now.latest.pairs }
     requires canonical { AllCanonical done.now.lines.items }
-    ensures { IfOk result (λ holders. (x : ℤ) → grouped_at holders x ≡ held (at (lines_of done.now.lines.items) x)) }
+    ensures { IfOk result
+        (λ holders. (x : ℤ) → grouped_at holders x ≡ held (at (lines_of done.now.lines.items) x)) }
 {
     let mut holders = RangeMultiMap::new(alloc);
     let mut position = 0;
@@ -106,9 +109,12 @@ fn places_of(
 pub(crate) fn tabulate(alloc: Global, done: &NamedLines<'_>) -> Result<Table, NoMemory>
     requires indexed { IsIndex (names_of done.now.lines.items) done.now.latest.pairs }
     requires canonical { AllCanonical done.now.lines.items }
-    ensures canonical { IfOk result (λ table. IsCanonicalMap (pointwise nat_eq) least greatest (tabled table.groups table.slots)) }
+    ensures canonical { IfOk result
+        (λ table. IsCanonicalMap (pointwise nat_eq) least greatest
+        (tabled table.groups table.slots)) }
     ensures values { IfOk result (λ table. (x : ℤ) → least ≤ℤ x → x ≤ℤ greatest
-        → value_at (tabled table.groups table.slots) x ≡ Some (held (at (lines_of done.now.lines.items) x))) }
+        → value_at (tabled table.groups table.slots) x ≡ Some
+        (held (at (lines_of done.now.lines.items) x))) }
 {
     let holders = gather(alloc, done)?;
     let groups = holders.group(alloc)?;

@@ -1,4 +1,5 @@
-//! What no contract shows: that the calls answer where memory suffices, and that the definitions say what is meant.
+//! What no contract shows: that the calls answer where memory suffices, and that the definitions
+//! say what is meant.
 use crate::{
     AlgebraError, LineForm, Word, evaluate, evaluate_document, read_line, read_word, truths_at,
 };
@@ -10,7 +11,8 @@ use std::test::Fail;
 /// How each table begins: at the least number.
 const TABLE: &[u8] = b"# -9223372036854775808..=";
 
-/// What is written for a text without its table: its list lines, or its first fault and a line feed.
+/// What is written for a text without its table: its list lines, or its first fault and a line
+/// feed.
 fn lists_of(rt: &impl Abort, alloc: Global, text: &[u8]) -> Result<Vec<u8>, AlgebraError> {
     let mut bytes = match evaluate_document(alloc, text) {
         Ok(bytes) => bytes,

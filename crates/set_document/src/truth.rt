@@ -1,4 +1,5 @@
-//! The plain reading of a document's meaning, one number at a time. Tests compare every evaluator with it.
+//! The plain reading of a document's meaning, one number at a time. Tests compare every evaluator
+//! with it.
 ghost use Rattle.std.specs.Prelude.{◌≡◌, ◌<◌, ◌++◌, ◌∷◌, [], IfOk, OnOk, MatchOption, length, reverse, map, List, option_map, option_copied};
 ghost use Rattle.set_document.specs.Text.{words};
 ghost use Rattle.set_document.specs.Truth.{at, named, latest, after_word, after_words, last_value};
@@ -39,7 +40,8 @@ fn push_value(values: &mut Vec<bool>, value: bool) -> Result<(), NoMemory>
 
 // The last two values, taken off; where there are fewer, they stay.
 fn pop_two(values: &mut Vec<bool>) -> Option<(bool, bool)>
-    ensures { MatchOption result ((length values.old.items < 2) × (values.new.items ≡ values.old.items))
+    ensures { MatchOption result
+        ((length values.old.items < 2) × (values.new.items ≡ values.old.items))
         (λ p. values.old.items ≡ values.new.items ++ p.0 ∷ p.1 ∷ []) }
 {
     if values.len() < 2 {
@@ -57,7 +59,9 @@ fn apply_word(
     x: i64,
     found: Option<Word<'_>>,
 ) -> Result<(), NoMemory>
-    ensures { OnOk result (reverse values.new.items ≡ after_word (pairs_of done.now) x (reverse values.old.items) (option_map shown found.entry)) }
+    ensures { OnOk result
+        (reverse values.new.items ≡ after_word (pairs_of done.now) x (reverse values.old.items)
+        (option_map shown found.entry)) }
 {
     match found {
         None => Ok(()),
@@ -99,7 +103,9 @@ fn line_truth(
     rest: Option<&[u8]>,
     x: i64,
 ) -> Result<bool, NoMemory>
-    ensures { IfOk result (λ value. value ≡ last_value (after_words (pairs_of done.now) x [] (words (option_copied rest.entry)))) }
+    ensures { IfOk result
+        (λ value. value ≡ last_value
+        (after_words (pairs_of done.now) x [] (words (option_copied rest.entry)))) }
 {
     let mut values: Vec<bool> = Vec::new(alloc);
     let mut left = rest;
@@ -136,8 +142,9 @@ fn values_of(alloc: Global, done: &[Known<'_>]) -> Result<Vec<bool>, NoMemory>
 
 /// Whether each named line of a text is true at `x`, in the order of the lines.
 ///
-/// It follows the definition word by word, for this one number, and judges nothing: a faulty text has an answer too.
-/// O(n) in the bytes of the text, times the number of lines where names are looked up.
+/// It follows the definition word by word, for this one number, and judges nothing: a faulty text
+/// has an answer too. O(n) in the bytes of the text, times the number of lines where names are
+/// looked up.
 pub fn truths_at(alloc: Global, text: &[u8], x: i64) -> Result<Vec<bool>, NoMemory>
     ensures { IfOk result (λ truths. truths.items ≡ map (λ l. l.1) (at (named text.now) x)) }
 {

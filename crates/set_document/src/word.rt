@@ -6,8 +6,8 @@ ghost use Rattle.set_document.specs.Words.{letters, shown};
 
 use crate::number::read_number;
 
-/// A name of a document: a borrowed part of its text, one or more letters of `a` to `z`. Names are ordered by
-/// their bytes, and a name comes before each longer one that begins with it.
+/// A name of a document: a borrowed part of its text, one or more letters of `a` to `z`. Names are
+/// ordered by their bytes, and a name comes before each longer one that begins with it.
 #[derive(Clone, Copy, PartialEq, Eq, PartialOrd, Ord, Hash, Debug)]
 pub struct Name<'t> {
     bytes: &'t [u8],
@@ -33,7 +33,8 @@ impl<'t> Name<'t> {
 pub enum Word<'t> {
     /// Pushes the set of one number.
     Number(i64),
-    /// Pushes the set of the numbers from the first to the last. It may be reversed, which is a fault of its line.
+    /// Pushes the set of the numbers from the first to the last. It may be reversed, which is a
+    /// fault of its line.
     Span(i64, i64),
     /// Pushes the set of no number.
     Empty,
@@ -98,9 +99,9 @@ fn read_span<'t>(piece: &'t [u8]) -> Option<Word<'t>>
 
 /// The word that a piece between spaces writes, or `None` where it is no word.
 ///
-/// A number is `0`, or an optional `-`, a digit 1 to 9 and further digits, and fits an `i64`; a span is two numbers
-/// with `..=` between them. Letters of `a` to `z` alone are a name, but for `empty` and `full`. O(n), and takes no
-/// memory.
+/// A number is `0`, or an optional `-`, a digit 1 to 9 and further digits, and fits an `i64`; a
+/// span is two numbers with `..=` between them. Letters of `a` to `z` alone are a name, but for
+/// `empty` and `full`. O(n), and takes no memory.
 pub fn read_word<'t>(piece: &'t [u8]) -> Option<Word<'t>>
     ensures { option_map shown result ≡ kind piece.now }
 {

@@ -27,8 +27,8 @@ fn line_count(word: &[u8]) -> Option<usize>
     }
 }
 
-/// What the words ask for: no word for the answer of a text, `sample` and a decimal from 1 to 1000 for the counts of a
-/// sample. `None` where they are anything else. Takes no memory.
+/// What the words ask for: no word for the answer of a text, `sample` and a decimal from 1 to 1000
+/// for the counts of a sample. `None` where they are anything else. Takes no memory.
 pub fn read_command(words: &[Argument]) -> Option<Command>
     ensures { AskFor words.now result }
 {

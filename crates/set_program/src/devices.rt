@@ -8,8 +8,8 @@ ghost use Rattle.set_program.specs.Counts.{HasCause, CountsTaken};
 #[derive(Clone, Copy, Debug, PartialEq, Eq)]
 pub struct Failed;
 
-/// Where a text comes from. It counts the bytes that were taken and the reads that failed; a count never falls, and
-/// stays at `u64::MAX` once it is there.
+/// Where a text comes from. It counts the bytes that were taken and the reads that failed; a count
+/// never falls, and stays at `u64::MAX` once it is there.
 pub trait Source {
     /// The bytes that are left to read, where the source tells them.
     ghost left: { Self → Option (List ℕ) };
@@ -20,8 +20,8 @@ pub trait Source {
     /// How many reads failed.
     ghost faults: { Self → ℕ };
 
-    /// Puts the next bytes at the front of the buffer, and answers how many. `Ok(0)` is the end of the input. After
-    /// `Failed` nothing was taken, and the failed read is counted.
+    /// Puts the next bytes at the front of the buffer, and answers how many. `Ok(0)` is the end of
+    /// the input. After `Failed` nothing was taken, and the failed read is counted.
     fn read(&mut self, buffer: &mut [u8]) -> Result<usize, Failed>
         requires { 0 < length buffer.old }
         ensures bound { ReadsAtMost result buffer.new }
@@ -30,8 +30,8 @@ pub trait Source {
         ensures cause { HasCause (faults self.old) (faults self.new) result };
 }
 
-/// Where an answer goes. It counts the writes and finishes that failed; the count never falls, and stays at
-/// `u64::MAX` once it is there.
+/// Where an answer goes. It counts the writes and finishes that failed; the count never falls, and
+/// stays at `u64::MAX` once it is there.
 pub trait Sink {
     /// The bytes that were written, where the sink tells them.
     ghost written: { Self → Option (List ℕ) };
@@ -42,8 +42,8 @@ pub trait Sink {
     /// How many writes and finishes failed.
     ghost faults: { Self → ℕ };
 
-    /// Writes bytes from the front of the piece, and answers how many, at least one. After `Failed` nothing was
-    /// written, and the failed write is counted.
+    /// Writes bytes from the front of the piece, and answers how many, at least one. After `Failed`
+    /// nothing was written, and the failed write is counted.
     fn write(&mut self, piece: &[u8]) -> Result<usize, Failed>
         requires { 0 < length piece.now }
         ensures bound { IfOk result (λ n. (1 ≤ n) × (n ≤ length piece.now)) }
@@ -52,8 +52,8 @@ pub trait Sink {
         ensures failed { OnErr result (finished self.new ≡ finished self.old) }
         ensures cause { HasCause (faults self.old) (faults self.new) result };
 
-    /// Ends the writing: what was written has gone on its way. After `Failed` the sink is finished only if it was
-    /// before, and the failed finish is counted.
+    /// Ends the writing: what was written has gone on its way. After `Failed` the sink is finished
+    /// only if it was before, and the failed finish is counted.
     fn finish(&mut self) -> Result<(), Failed>
         ensures bytes { Keeps (written self.old) (written self.new) }
         ensures finished { OnOk result (finished self.new ≡ true) }

@@ -1,5 +1,6 @@
-//! Reads a text, and writes its answer or its first fault; or writes the counts of a sample's answer. The words of the command line, the text and the answer go
-//! through devices, over memory or over std, so that `run` is proved against what a device may do.
+//! Reads a text, and writes its answer or its first fault; or writes the counts of a sample's
+//! answer. The words of the command line, the text and the answer go through devices, over memory
+//! or over std, so that `run` is proved against what a device may do.
 #![tactic(auto)]
 
 mod answering;

@@ -9,9 +9,10 @@ use element_core::NoMemory;
 use std::alloc::{AllocError, Global};
 use std::marker::Model;
 
-/// A sink in memory, seen as what was written to it and what its next calls do. Writes are numbered from 1; one whose
-/// number is listed fails, and one that finds no room. Any other takes as many bytes as its piece, the bytes handed in
-/// and the room left allow. All its memory is taken by `new`.
+/// A sink in memory, seen as what was written to it and what its next calls do. Writes are numbered
+/// from 1; one whose number is listed fails, and one that finds no room. Any other takes as many
+/// bytes as its piece, the bytes handed in and the room left allow. All its memory is taken by
+/// `new`.
 #[derive(Drop)]
 pub struct MemorySink {
     bytes: Vec<u8>,
@@ -43,8 +44,9 @@ impl Model for MemorySink {
 }
 
 impl MemorySink {
-    /// A sink with room for `room` bytes, which is taken here, and at most `piece` of them in a write. The writes whose
-    /// numbers are in `failing`, counted from 1, fail, and where `fail_finish` is true each finish fails.
+    /// A sink with room for `room` bytes, which is taken here, and at most `piece` of them in a
+    /// write. The writes whose numbers are in `failing`, counted from 1, fail, and where
+    /// `fail_finish` is true each finish fails.
     pub fn new(
         alloc: Global,
         room: usize,

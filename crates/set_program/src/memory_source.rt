@@ -8,8 +8,9 @@ ghost use Rattle.set_program.specs.MemorySource.{SourceState, read_count, read_f
 use crate::devices::{Failed, Source};
 use std::marker::Model;
 
-/// A source in memory, seen as what is left in it and what its next reads do. Reads are numbered from 1; one whose
-/// number is listed fails, and any other gives as many bytes as its piece, the buffer and the bytes left allow.
+/// A source in memory, seen as what is left in it and what its next reads do. Reads are numbered
+/// from 1; one whose number is listed fails, and any other gives as many bytes as its piece, the
+/// buffer and the bytes left allow.
 #[derive(Drop)]
 pub struct MemorySource {
     bytes: Vec<u8>,
@@ -37,8 +38,8 @@ impl Model for MemorySource {
 }
 
 impl MemorySource {
-    /// A source of these bytes, at most `piece` of them in a read; the reads whose numbers are in `failing`, counted
-    /// from 1, fail. Takes no memory.
+    /// A source of these bytes, at most `piece` of them in a read; the reads whose numbers are in
+    /// `failing`, counted from 1, fail. Takes no memory.
     pub fn new(bytes: Vec<u8>, piece: usize, failing: Vec<u64>) -> Self
         requires { 1 ≤ piece }
         ensures { result ≡ record {
@@ -96,7 +97,8 @@ impl Source for MemorySource {
     }
 }
 
-/// Copies bytes to the front of a buffer: as many as there are, the buffer has room for and `most` allows.
+/// Copies bytes to the front of a buffer: as many as there are, the buffer has room for and `most`
+/// allows.
 pub(crate) fn give(bytes: &[u8], buffer: &mut [u8], most: usize) -> usize
     ensures count { result ≡ min (length bytes.now) (min most (length buffer.old)) }
     ensures given { take result buffer.new ≡ take result bytes.now }

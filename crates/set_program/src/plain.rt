@@ -9,8 +9,8 @@ use crate::devices::{Failed, Sink, Source};
 use crate::memory_source::give;
 use std::marker::Model;
 
-/// A source in memory that never fails, seen as the bytes left and the number of bytes taken. A read gives as many
-/// bytes as are left and fit.
+/// A source in memory that never fails, seen as the bytes left and the number of bytes taken. A
+/// read gives as many bytes as are left and fit.
 #[derive(Drop)]
 pub struct PlainSource {
     bytes: Vec<u8>,
@@ -63,7 +63,8 @@ impl Source for PlainSource {
     }
 }
 
-/// A sink that takes each piece whole, keeps no byte and never fails. It is seen as whether it is finished.
+/// A sink that takes each piece whole, keeps no byte and never fails. It is seen as whether it is
+/// finished.
 #[derive(Drop)]
 pub struct PlainSink {
     finished: bool,

@@ -20,14 +20,16 @@ use crate::status::Status;
 use set_document::AlgebraError;
 use std::alloc::Global;
 
-/// Without words it reads a text from the source, and writes its answer to the sink, or the line of its first fault. With
-/// the words `sample` and a decimal from 1 to 1000 it leaves the source alone, and writes the counts of the answer to the
-/// sample text of so many lines, as `lines 4 ranges 6 rows 8 bytes 223`.
+/// Without words it reads a text from the source, and writes its answer to the sink, or the line of
+/// its first fault. With the words `sample` and a decimal from 1 to 1000 it leaves the source
+/// alone, and writes the counts of the answer to the sample text of so many lines, as `lines 4
+/// ranges 6 rows 8 bytes 223`.
 ///
-/// It judges the words first: any others are `Usage`, with no device called. Then it reads to the end of the input, or to
-/// the 65,537th byte, which is `TooLong` at once; then it evaluates the text, writes, and finishes the sink. Each write
-/// is handed all that isn't written yet, in one piece. The first failed call on a device ends the run as `ReadFault` or
-/// `WriteFault`. All memory is taken before the first write, and `NoMemory` leaves the sink as it was.
+/// It judges the words first: any others are `Usage`, with no device called. Then it reads to the
+/// end of the input, or to the 65,537th byte, which is `TooLong` at once; then it evaluates the
+/// text, writes, and finishes the sink. Each write is handed all that isn't written yet, in one
+/// piece. The first failed call on a device ends the run as `ReadFault` or `WriteFault`. All memory
+/// is taken before the first write, and `NoMemory` leaves the sink as it was.
 ///
 /// O(n) calls of the devices for n bytes read and written.
 pub fn run<S: Source, K: Sink>(
@@ -114,7 +116,8 @@ pub fn run<S: Source, K: Sink>(
     ensures memory_sink { result ≡ Status.NoMemory → sink.new ≡ sink.old }
 
     // Where no call fails, the text and the words decide.
-    ensures complete_text { words.now ≡ [] → IfSome (S.left source.old) (λ text. length text ≤ MAX_TEXT
+    ensures complete_text { words.now ≡ [] → IfSome (S.left source.old)
+        (λ text. length text ≤ MAX_TEXT
         → NotRose (S.faults source.old) (S.faults source.new)
         → NotRose (K.faults sink.old) (K.faults sink.new)
         → IsUnlessNoMemory result (status_of text)) }

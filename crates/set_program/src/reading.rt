@@ -31,7 +31,8 @@ pub fn zeroed(alloc: Global, length: usize) -> Result<Vec<u8>, NoMemory>
     Ok(vec![in alloc; 0u8; length]?)
 }
 
-/// Reads into the buffer, to the text's end or until the buffer is full. The first failed read ends it.
+/// Reads into the buffer, to the text's end or until the buffer is full. The first failed read ends
+/// it.
 #[tactic(auto, using(crate::proofs::Pieces::one_more_read))]
 pub fn read_text<S: Source>(source: &mut S, buffer: &mut [u8]) -> Reading
     requires { length buffer.old ≡ MAX_READ }

@@ -1,4 +1,5 @@
-//! Tests of `run` without words over devices in memory: what is written, how it ends, and how the devices are called.
+//! Tests of `run` without words over devices in memory: what is written, how it ends, and how the
+//! devices are called.
 use crate::devices::Source;
 use crate::memory_sink::MemorySink;
 use crate::memory_source::MemorySource;

@@ -15,7 +15,8 @@ use set_document::{Answer, evaluate, sample_text};
 use std::alloc::Global;
 use std::io::Write;
 
-// The ranges of an answer that is printed in these bytes. There are no more of them than bytes, so their number is exact.
+// The ranges of an answer that is printed in these bytes. There are no more of them than bytes, so
+// their number is exact.
 #[tactic(auto, using(set_document::proofs::CountLemmas::runs_below_bytes))]
 fn ranges_of(answer: &Answer<'_>, bytes: &[u8]) -> usize
     requires { bytes.now ≡ printed answer.now }
@@ -25,7 +26,8 @@ fn ranges_of(answer: &Answer<'_>, bytes: &[u8]) -> usize
     answer.num_ranges()
 }
 
-// The line that tells how many named lines, ranges and rows an answer has, and how many bytes it is printed in.
+// The line that tells how many named lines, ranges and rows an answer has, and how many bytes it is
+// printed in.
 fn counts_of(alloc: Global, answer: &Answer<'_>, bytes: &[u8]) -> Result<Vec<u8>, NoMemory>
     requires { bytes.now ≡ printed answer.now }
     ensures { IfOk result (λ line. line.items ≡ counts_text answer.now) }
@@ -57,7 +59,8 @@ fn summary_of(alloc: Global, lines: usize) -> Result<Vec<u8>, NoMemory>
     counts_of(alloc, &answer, &bytes)
 }
 
-/// Writes the counts of the answer to the sample text of so many lines. All memory is taken before the first write.
+/// Writes the counts of the answer to the sample text of so many lines. All memory is taken before
+/// the first write.
 pub fn write_summary<K: Sink>(alloc: Global, lines: usize, sink: &mut K) -> Status
     requires { lines ≤ 1000 }
     ensures reached { IsWithoutText result }

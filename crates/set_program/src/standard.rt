@@ -8,7 +8,8 @@ use crate::devices::{Failed, Sink, Source};
 use std::io::{Read, Write};
 use std::marker::Model;
 
-/// A source over a reader of std: one read of it for each read. An error of the reader is a counted fault.
+/// A source over a reader of std: one read of it for each read. An error of the reader is a counted
+/// fault.
 #[derive(Drop)]
 pub struct StdSource<R> {
     reader: R,
@@ -63,8 +64,8 @@ impl<R: Read> Source for StdSource<R> {
     }
 }
 
-/// A sink over a writer of std: one write of it for each write, and one `flush` for each finish. An error of the
-/// writer, or a write that takes nothing, is a counted fault.
+/// A sink over a writer of std: one write of it for each write, and one `flush` for each finish. An
+/// error of the writer, or a write that takes nothing, is a counted fault.
 #[derive(Drop)]
 pub struct StdSink<W> {
     writer: W,

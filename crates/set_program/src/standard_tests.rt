@@ -1,4 +1,5 @@
-//! Tests of the devices over std: over a reader that fails once, and over a writer that takes nothing.
+//! Tests of the devices over std: over a reader that fails once, and over a writer that takes
+//! nothing.
 use crate::devices::{Failed, Sink, Source};
 use crate::memory_source::give;
 use crate::program::run;

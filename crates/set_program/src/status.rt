@@ -24,7 +24,8 @@ pub enum Status {
 }
 
 impl Status {
-    /// The code that the process ends with, from 0 for `Done` to 6 for `Usage`. O(1), takes no memory.
+    /// The code that the process ends with, from 0 for `Done` to 6 for `Usage`. O(1), takes no
+    /// memory.
     pub fn code(&self) -> u8
         ensures { result ≡ code_of self.now }
     {

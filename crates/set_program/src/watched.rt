@@ -60,7 +60,8 @@ pub struct WatchedSink {
 }
 
 impl WatchedSink {
-    /// A sink that takes so many bytes of a piece at most, but at least one, and notes the lengths in `handed`.
+    /// A sink that takes so many bytes of a piece at most, but at least one, and notes the lengths
+    /// in `handed`.
     pub fn new(piece: usize, handed: Vec<usize>) -> Self {
         WatchedSink {
             piece,

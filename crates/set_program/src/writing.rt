@@ -6,8 +6,8 @@ ghost use Rattle.set_program.specs.Devices.{AppendsPrefix};
 
 use crate::devices::{Failed, Sink};
 
-/// Writes all bytes, and finishes the sink. Each write is handed all that isn't written yet, and the first failed
-/// call ends it. Takes no memory.
+/// Writes all bytes, and finishes the sink. Each write is handed all that isn't written yet, and
+/// the first failed call ends it. Takes no memory.
 #[tactic(auto, using(crate::proofs::Pieces::one_more_written))]
 pub fn write_text<K: Sink>(sink: &mut K, bytes: &[u8]) -> Result<(), Failed>
     ensures ok { OnOk result (Appends (K.written sink.old) (K.written sink.new) bytes.now) }
