@@ -1,5 +1,5 @@
 -- One element of a heap moves down to its place.
-use Rattle.std.proofs.Common.{◌≡◌, ℕ, zero, suc, ◌+◌, ◌-◌, ◌*◌, ◌/◌, ◌<◌, ◌≤◌, ◌⊎◌, ⊎_elim, inl, inr, Bool, true, false, List, [], ◌∷◌, length, slice_index_or, slice_set, swap_remove, take, refl, ◌∙◌, arith}
+use Rattle.std.proofs.Common.{◌≡◌, ℕ, zero, suc, ◌+◌, ◌-◌, ◌*◌, ◌/◌, ◌<◌, ◌≤◌, ⊎_elim, inl, inr, Bool, true, false, List, length, slice_index_or, slice_set, swap_remove, refl, ◌∙◌, arith}
 use Rattle.std.specs.Cmp.{IsStrictWeakOrder}
 use Rattle.std.specs.List.{SwappedAt, AllZip}
 use Rattle.std.proofs.lemmas.Bool.{cases_eq, cases_Bool}
@@ -120,9 +120,9 @@ module _ {X : Type 0} {less : X → X → Bool} (xs : List X) where
   first_set x h =
       let long = length-set xs 0 x in
       let but : IsHeapBut less 0 0 xs = record {
-          begins = omega arith;
-          others = λ i c d ic low l n. h i c d ic low l;
-          past = λ i c d ik kc low l. absurd (omega (arith, below_child i 0 ik));
+        begins = omega arith;
+        others = λ i c d ic low l n. h i c d ic low l;
+        past = λ i c d ik kc low l. absurd (omega (arith, below_child i 0 ik));
       } in
       other_first (slice_set xs 0 x) but (omega (arith, long)) (λ k d pos l. get_or-set_other xs 0 k x d (λ e. absurd (omega (arith, pos, e))))
 
@@ -133,7 +133,7 @@ module _ {X : Type 0} {less : X → X → Bool} (xs : List X) where
       let long = length-set xs 0 (slice_index_or xs (length xs - 1) x) in
       let short = length-take-le (length xs - 1) set_first (omega (arith, long)) in
       other_first (swap_remove xs 0 x) h (omega (arith, short))
-          (λ k d pos l. get_or-take (length xs - 1) set_first k d (omega (arith, l, short)) ∙ get_or-set_other xs 0 k (slice_index_or xs (length xs - 1) x) d (λ e. absurd (omega (arith, pos, e))))
+      (λ k d pos l. get_or-take (length xs - 1) set_first k d (omega (arith, l, short)) ∙ get_or-set_other xs 0 k (slice_index_or xs (length xs - 1) x) d (λ e. absurd (omega (arith, pos, e))))
 
 -- lists whose elements compare alike are both heaps
 pub heap_alike : {X : Type 0} {less : X → X → Bool} {Like : X → X → Type 0} (xs ys : List X) → AllZip Like xs ys → ((x u y v : X) → Like x y → Like u v → less y v ≡ less x u) → IsHeap less xs → IsHeap less ys

@@ -1,5 +1,5 @@
 -- A list whose elements `f` reads: where what is read stands in another order, so may the elements.
-use Rattle.std.proofs.Common.{◌≡◌, ℕ, zero, suc, ◌<◌, List, [], ◌∷◌, length, map, set, get_or, All, IsPermutation, refl, sym, ap, ap₂, subst, ◌∙◌, arith}
+use Rattle.std.proofs.Common.{◌≡◌, ℕ, zero, suc, List, [], ◌∷◌, map, set, get_or, All, IsPermutation, refl, sym, ap, ap₂, subst, ◌∙◌}
 use Rattle.std.specs.List.{swap}
 use Rattle.std.specs.List.Sorted.{apply_swaps, SwapsInRange}
 use Rattle.std.proofs.lemmas.List.{length-map, map-set}
@@ -16,7 +16,7 @@ module _ {X Y : Type 0} (f : X → Y) where
   read_swap (x ∷ xs) i j =
       let l : List X = x ∷ xs in
       map-set f (set l i (get_or l j x)) j (get_or l i x)
-          ∙ ap₂ (λ ys y. set ys j y) (map-set f l i (get_or l j x) ∙ ap (set (map f l) i) (sym (read l j x))) (sym (read l i x))
+      ∙ ap₂ (λ ys y. set ys j y) (map-set f l i (get_or l j x) ∙ ap (set (map f l) i) (sym (read l j x))) (sym (read l i x))
 
   read_swaps : (xs : List X) (moves : List (ℕ × ℕ)) → map f (apply_swaps xs moves) ≡ apply_swaps (map f xs) moves
   read_swaps xs [] = refl

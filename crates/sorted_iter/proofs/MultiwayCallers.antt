@@ -1,5 +1,5 @@
 -- What a caller of `multiway_union` cites.
-use Rattle.std.proofs.Common.{◌≡◌, ℕ, zero, suc, List, [], ◌∷◌, Option, Some, None, IfSome, IfOk, Ok, Err, Result, Vec, All, true, refl, sym, subst, ◌∙◌, vec_items, slice_get}
+use Rattle.std.proofs.Common.{◌≡◌, ℕ, zero, suc, List, [], ◌∷◌, Option, IfSome, IfOk, Ok, Err, Result, Vec, All, true, refl, sym, subst, ◌∙◌, vec_items, slice_get}
 use Rattle.std.proofs.iter.runs.Made.{run, took, seen, each}
 use Rattle.std.proofs.lemmas.Iterator.{IsCollectResult}
 use Rattle.std.proofs.lemmas.List.Elements.{All-head, All-tail}
@@ -16,7 +16,7 @@ use Rattle.sorted_iter.specs.Orders.{GivesList}
 use Rattle.ordered_lists.specs.Multiway.{IsMultiwayUnion}
 use Rattle.sorted_iter.specs.declared.multiway.heads.InputHead.{InputHead}
 use Rattle.sorted_iter.specs.TwoSidesLemmas.{Through, through-yields}
-use Rattle.sorted_iter.specs.MultiwayClones.{AreAlike, ComesAlike}
+use Rattle.sorted_iter.specs.MultiwayClones.{ComesAlike}
 use Rattle.sorted_iter.specs.MultiwaySteps.{multi_steps, MultiListsAre}
 
 module _ {S Z : Type 0} (P : S → Type 0) where

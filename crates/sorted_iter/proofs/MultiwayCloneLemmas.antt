@@ -1,14 +1,14 @@
 -- A run of cloned heads, and a run of the heads themselves that is alike.
-use Rattle.std.proofs.Common.{◌≡◌, ℕ, inl, inr, ⊎_elim, Bool, true, false, List, [], ◌∷◌, ◌++◌, map, length, slice_index_or, Option, Some, None, All, IsPermutation, refl, sym, ap, ap₂, ◌∙◌, subst, arith, true≢false, T, ◌&&◌}
+use Rattle.std.proofs.Common.{◌≡◌, inl, inr, Bool, true, false, List, [], ◌∷◌, ◌++◌, map, Option, Some, None, All, IsPermutation, refl, sym, ap, ap₂, ◌∙◌, subst, true≢false, T, ◌&&◌}
 use Rattle.std.specs.Cmp.{IsTotalOrder}
 use Rattle.std.specs.Iterator.{Yields, DrainsIf, Count, IsFinite}
-use Rattle.std.specs.Iterator.Runs.{Run, EachRunFrom, SomeRun}
+use Rattle.std.specs.Iterator.Runs.{EachRunFrom, SomeRun}
 use Rattle.std.specs.List.{AllByRecursion, AllZip}
 use Rattle.std.specs.Ordering.{is_lt, ordering_then, nat_cmp}
 use Rattle.std.specs.declared.cmp.Ordering.{Ordering}
 use Rattle.std.specs.declared.cmp.Ordering.TheVariants.{Less, Equal}
 use Rattle.std.proofs.iter.runs.Made.{run, took, seen}
-use Rattle.std.proofs.lemmas.Cmp.{alike_right, tied_back}
+use Rattle.std.proofs.lemmas.Cmp.{alike_right}
 use Rattle.std.proofs.lemmas.List.Elements.{All-nil, All-cons, All-head, All-tail}
 use Rattle.std.proofs.lemmas.List.Sorted.{All-permutation, IsPermutation-sym, IsPermutation-map}
 use Rattle.std.specs.List.Sorted.{IsStrictlySortedBy}
@@ -17,7 +17,7 @@ use Rattle.ordered_lists.proofs.HeapLemmas.{heap_alike}
 use Rattle.ordered_lists.proofs.PermutationLemmas.{in_order_of}
 use Rattle.sorted_iter.specs.declared.multiway.heads.InputHead.{InputHead}
 use Rattle.sorted_iter.specs.MultiwayHeads.{before, can_go, heads_count, Begun, TakesLeast}
-use Rattle.sorted_iter.specs.MultiwaySteps.{TakesEach, TakesEqual, multi_steps}
+use Rattle.sorted_iter.specs.MultiwaySteps.{TakesEach, multi_steps}
 use Rattle.sorted_iter.specs.MultiwayRunLemmas.{Bundle, full, Tail, HeadAscends, map-cons}
 use Rattle.sorted_iter.specs.MultiwayClones.{AreAlike, ComesAlike, IsHeadClone}
 
@@ -63,7 +63,7 @@ module _ {S A : Type 0} {cmp : A → A → Ordering} (o : IsTotalOrder cmp) (ste
   items_pair [] P Q f a h = All-nil (λ k. Q k.item)
   items_pair (p ∷ ps) P Q f a h =
       All-cons (λ k. Q k.item) p.1.0 (theirs ps) (f p.0.0.item p.1.0.item (All-head Alike p ps a).item (All-head (λ k. P k.item) p.0.0 (map (λ b. b.0) (map (λ p. p.0) ps)) h))
-          (items_pair ps P Q f (All-tail Alike p ps a) (All-tail (λ k. P k.item) p.0.0 (map (λ b. b.0) (map (λ p. p.0) ps)) h))
+      (items_pair ps P Q f (All-tail Alike p ps a) (All-tail (λ k. P k.item) p.0.0 (map (λ b. b.0) (map (λ p. p.0) ps)) h))
 
   with_rise : (js : List (InputHead S A)) (Goal : List (InputHead S A) → Type 0) → Sim js Goal → Sim js (λ hs. Goal hs × Rise js hs)
   unfolding Rise
@@ -71,11 +71,14 @@ module _ {S A : Type 0} {cmp : A → A → Ordering} (o : IsTotalOrder cmp) (ste
     bundles = s.bundles;
     are = s.are;
     tails = s.tails;
-    holds = λ ps e a. (s.holds ps e a, λ x u q rise low.
-        let ours : map (λ b. b.0) (map (λ p. p.0) ps) ≡ js = ap (map (λ b. b.0)) e ∙ s.are in
-        let lows = pair_items ps (λ y. is_lt (cmp y u) ≡ false) (λ y. is_lt (cmp y x) ≡ false) (λ y v f n. ap is_lt (sym (compared y x v u f q)) ∙ n) a low in
-        let ups = rise (subst (All (λ k. is_lt (cmp k.item x) ≡ false)) ours lows) in
-        items_pair ps (λ y. cmp x y ≡ Less) (λ y. cmp u y ≡ Less) (λ y v f n. compared x y u v q f ∙ n) a (subst (All (λ k. cmp x k.item ≡ Less)) (sym ours) ups));
+    holds = λ ps e a. (
+      s.holds ps e a,
+      λ x u q rise low.
+          let ours : map (λ b. b.0) (map (λ p. p.0) ps) ≡ js = ap (map (λ b. b.0)) e ∙ s.are in
+          let lows = pair_items ps (λ y. is_lt (cmp y u) ≡ false) (λ y. is_lt (cmp y x) ≡ false) (λ y v f n. ap is_lt (sym (compared y x v u f q)) ∙ n) a low in
+          let ups = rise (subst (All (λ k. is_lt (cmp k.item x) ≡ false)) ours lows) in
+          items_pair ps (λ y. cmp x y ≡ Less) (λ y. cmp u y ≡ Less) (λ y v f n. compared x y u v q f ∙ n) a (subst (All (λ k. cmp x k.item ≡ Less)) (sym ours) ups),
+    );
   }
 
   -- one item went out
@@ -164,10 +167,10 @@ module _ {S A : Type 0} {cmp : A → A → Ordering} (o : IsTotalOrder cmp) (ste
                 let new : InputHead S A = record { item = next.0; rest = tail.1.0; place = d.1.0.place } in
                 let pair : Pair = (v, (new, next.1, d.1.2)) in
                 let alike : Alike pair = record {
-                    tail = (tail.0, tail.1.2, tail.2);
-                    item = next.3;
-                    items = next.4;
-                    whole = own.whole ∙ ap (λ (b : Bundle S A). b.2) parts.3;
+                  tail = (tail.0, tail.1.2, tail.2);
+                  item = next.3;
+                  items = next.4;
+                  whole = own.whole ∙ ap (λ (b : Bundle S A). b.2) parts.3;
                 } in
                 let equal : cmp d.1.0.item x ≡ Equal = subst (λ y. cmp d.1.0.item y ≡ Equal) (ap (λ (b : Bundle S A). b.0.item) parts.3 ∙ kx) own.item in
                 let rest = All-tail Alike d qr all in
@@ -246,7 +249,7 @@ module _ {S A : Type 0} {cmp : A → A → Ordering} (o : IsTotalOrder cmp) (ste
       }
   run_sim (x ∷ m) w ks end (js, (xs, each, equal, rise), y) e =
       weaker ks (TookEach (x ∷ xs) (λ gs. Runs m w gs × Rise js gs)) (Runs (x ∷ m) w) (first_run x xs m w js equal rise)
-          (each_sim (x ∷ xs) ks js (λ gs. Runs m w gs × Rise js gs) each (with_rise js (Runs m w) (run_sim m w js end y e)))
+      (each_sim (x ∷ xs) ks js (λ gs. Runs m w gs × Rise js gs) each (with_rise js (Runs m w) (run_sim m w js end y e)))
 
   -- ---- the clones
 
@@ -266,10 +269,10 @@ module _ {S A : Type 0} {cmp : A → A → Ordering} (o : IsTotalOrder cmp) (ste
         let q = z.0.input.runs (run steps b.0.rest b.1 b.2 (All-head (Tail cmp steps) b bs t)) (seen _) refl in
         let c : Bundle S A = (h, q.0.items, q.0.whole) in
         let own : Alike (b, c) = record {
-            tail = subst (λ s. DrainsIf steps (q.0.whole ≡ true) s q.0.items) q.1 (took q.0);
-            item = z.0.item;
-            items = q.2.items;
-            whole = q.2.whole;
+          tail = subst (λ s. DrainsIf steps (q.0.whole ≡ true) s q.0.items) q.1 (took q.0);
+          item = z.0.item;
+          items = q.2.items;
+          whole = q.2.whole;
         } in
         ((b, c) ∷ r.0, ap (λ l. b ∷ l) r.1, ap (λ l. h ∷ l) r.2, All-cons Alike (b, c) r.0 own r.3)
 
@@ -323,10 +326,10 @@ module _ {S A : Type 0} {cmp : A → A → Ordering} (o : IsTotalOrder cmp) (ste
     clones_ascend (h ∷ hs) (k ∷ ks) z a =
         let own = All-head (HeadAscends cmp steps) h hs a in
         let up : HeadAscends cmp steps k = record {
-            ascends = λ xs t y.
-                let q = z.0.input.runs (run steps k.rest xs false (t, y, λ e. absurd (true≢false (sym e)))) (seen _) refl in
-                let d = subst (λ s. DrainsIf steps (q.0.whole ≡ true) s q.0.items) q.1 (took q.0) in
-                ascends_alike (h.item ∷ q.0.items) (k.item ∷ xs) (z.0.item, q.2.items) (own.ascends q.0.items d.0 d.1);
+          ascends = λ xs t y.
+              let q = z.0.input.runs (run steps k.rest xs false (t, y, λ e. absurd (true≢false (sym e)))) (seen _) refl in
+              let d = subst (λ s. DrainsIf steps (q.0.whole ≡ true) s q.0.items) q.1 (took q.0) in
+              ascends_alike (h.item ∷ q.0.items) (k.item ∷ xs) (z.0.item, q.2.items) (own.ascends q.0.items d.0 d.1);
         } in
         All-cons (HeadAscends cmp steps) k ks up (clones_ascend hs ks z.1 (All-tail (HeadAscends cmp steps) h hs a))
 

@@ -1,11 +1,9 @@
 -- The hint of a many-way union bounds what is to come.
-use Rattle.std.proofs.Common.{◌≡◌, ℕ, suc, ◌+◌, ◌-◌, ◌^◌, ◌<◌, ◌≤◌, inl, inr, ⊎_elim, Bool, true, false, ltb, ltb-true, ltb-false, min, max, cond, List, [], ◌∷◌, ◌++◌, map, length, flat_map, Option, Some, None, IfSome, All, Contains, refl, sym, ap, ap₂, ◌∙◌, subst, arith, true≢false, length-append, T, ◌&&◌}
+use Rattle.std.proofs.Common.{◌≡◌, ℕ, ◌+◌, ◌-◌, ◌^◌, ◌≤◌, ⊎_elim, Bool, true, false, ltb, ltb-true, ltb-false, min, max, cond, List, [], ◌∷◌, ◌++◌, map, length, flat_map, Option, Some, None, IfSome, All, Contains, refl, sym, ap, ◌∙◌, subst, arith, true≢false, length-append, T, ◌&&◌}
 use Rattle.std.specs.Cmp.{IsTotalOrder}
-use Rattle.std.specs.Iterator.{Yields, DrainsIf, Count, IsFinite, size, UpTo}
+use Rattle.std.specs.Iterator.{Count, IsFinite, size, UpTo}
 use Rattle.std.specs.Iterator.SizeHint.{IsWithinCount}
-use Rattle.std.specs.Iterator.Runs.{EachRunFrom}
 use Rattle.std.specs.List.{AllByRecursion, AllZip}
-use Rattle.std.specs.List.Sorted.{IsStrictlySortedBy}
 use Rattle.std.specs.declared.cmp.Ordering.{Ordering}
 use Rattle.std.specs.declared.cmp.Ordering.TheVariants.{Equal}
 use Rattle.std.proofs.iter.runs.Made.{run, took, seen}
@@ -19,7 +17,7 @@ use Rattle.sorted_iter.specs.declared.multiway.heads.InputHead.{InputHead}
 use Rattle.sorted_iter.specs.TwoSidesLemmas.{Through, through-yields}
 use Rattle.sorted_iter.specs.MultiwayHeads.{heads_count}
 use Rattle.sorted_iter.specs.MultiwaySteps.{multi_steps, IsPassed}
-use Rattle.sorted_iter.specs.MultiwayRunLemmas.{Bundle, full, In, Tail, HeadAscends, Behind, run-back, has-first, has-more, cons-cases}
+use Rattle.sorted_iter.specs.MultiwayRunLemmas.{Bundle, full, In, Tail, HeadAscends, run-back, has-first, has-more, cons-cases}
 use Rattle.sorted_iter.specs.MultiwayHints.{Hint, IsHint, BoundsRuns, greatest_lower, sum_upper, known_sum, fitting, multiway_hint}
 
 -- ---- one input more

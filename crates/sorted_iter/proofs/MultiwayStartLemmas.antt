@@ -1,25 +1,22 @@
 -- From the heads to the inputs.
-use Rattle.std.proofs.Common.{◌≡◌, IfSome, slice_get, ℕ, zero, suc, ◌<◌, inl, inr, ◌⊎◌, ⊎_elim, Bool, true, false, List, [], ◌∷◌, ◌++◌, map, length, slice_index_or, Option, Some, None, All, Any, Contains, IsPermutation, flat_map, refl, sym, ap, ◌∙◌, subst, arith, append-nil, append_assoc, true≢false}
+use Rattle.std.proofs.Common.{◌≡◌, IfSome, slice_get, ℕ, zero, suc, inl, inr, ◌⊎◌, ⊎_elim, Bool, true, List, [], ◌∷◌, ◌++◌, map, Option, Some, None, All, Any, Contains, IsPermutation, flat_map, refl, sym, ap, ◌∙◌, subst, arith, append-nil, append_assoc, true≢false}
 use Rattle.std.specs.Cmp.{IsTotalOrder}
-use Rattle.std.specs.Iterator.{Yields, Drains, DrainsIf, AlwaysYields}
-use Rattle.std.specs.Iterator.Runs.{Run, EachRunFrom}
+use Rattle.std.specs.Iterator.{Drains, AlwaysYields}
+use Rattle.std.specs.Iterator.Runs.{Run}
 use Rattle.std.specs.List.{AllByRecursion, AllZip}
-use Rattle.std.specs.List.Sorted.{IsStrictlySortedBy, IsSortedBy}
-use Rattle.std.specs.Ordering.{is_lt}
 use Rattle.std.specs.declared.cmp.Ordering.{Ordering}
 use Rattle.std.proofs.iter.runs.Made.{run, took}
 use Rattle.std.proofs.lemmas.List.Elements.{All-nil, All-cons, All-head, All-tail, All-append}
-use Rattle.std.proofs.lemmas.List.Sorted.{All-permutation, Contains-permutation, IsPermutation-sym, ranks_by, sorted_far}
+use Rattle.std.proofs.lemmas.List.Sorted.{All-permutation, IsPermutation-sym}
 use Rattle.ordered_lists.proofs.PermutationLemmas.{in_order_of}
 use Rattle.ordered_lists.specs.Lists.{has}
-use Rattle.ordered_lists.specs.Multiway.{IsMultiwayUnion}
 use Rattle.ordered_lists.proofs.PlaceLemmas.{all_map}
 use Rattle.sorted_iter.specs.Orders.{InOrder, GivesList}
 use Rattle.sorted_iter.specs.TwoSidesLemmas.{Through, through-yields}
 use Rattle.sorted_iter.specs.declared.multiway.heads.InputHead.{InputHead}
-use Rattle.sorted_iter.specs.MultiwayHeads.{before, Begun}
-use Rattle.sorted_iter.specs.MultiwaySteps.{multi_steps, Started, IsPassed, IsMultiwayFront, MultiRunsAre, MultiListsAre}
-use Rattle.sorted_iter.specs.MultiwayRunLemmas.{Bundle, full, In, in-moved, Tail, HeadAscends, Behind, here, there, cons-cases, run-back, map-cons}
+use Rattle.sorted_iter.specs.MultiwayHeads.{Begun}
+use Rattle.sorted_iter.specs.MultiwaySteps.{multi_steps, Started, IsPassed, MultiRunsAre, MultiListsAre}
+use Rattle.sorted_iter.specs.MultiwayRunLemmas.{Bundle, full, In, in-moved, Tail, HeadAscends, cons-cases, run-back, map-cons}
 
 any-here : {X : Type 0} (P : X → Type 0) (x : X) (xs : List X) → P x → Any P (x ∷ xs)
 any-here P x xs p = (0, x, omega arith, refl, p)
@@ -113,14 +110,16 @@ module _ {S A : Type 0} {cmp : A → A → Ordering} (o : IsTotalOrder cmp) (ste
   module _ {T : Type 0} (inner : T → List (InputHead S A)) (its : List S) (hs : List (InputHead S A)) (s : T) (st : Started steps its hs) (moved : IsPermutation hs (inner s)) (asc : AllByRecursion (InOrder cmp steps) its) where
     pub runs-are : MultiRunsAre cmp (Through inner (multi_steps cmp steps)) s steps its
     unfolding R P Inputs
-    runs-are = record { behind = λ p on at.
-        let t = took p in
-        let y = through-yields inner (multi_steps cmp steps) p.items p.from t.0 t.1 in
-        let up = heads-ascend its hs (inner s) st moved asc in
-        let r = run-back o steps p.items p.whole (inner p.from) (inner t.0) y (λ w. (t.2 w).1.0) (subst (λ z. All (HeadAscends cmp steps) (inner z)) (sym at) up) in
-        let lifted = in_order_of (λ (b : Bundle S A). b.0) r.0 hs (rw (r.1.are ∙ ap inner at) (IsPermutation-sym _ _ moved)) in
-        let q = inputs p.items p.whole its st.0 lifted.0 st.1 (lifted.1 ∙ sym st.2) (All-permutation (Tail cmp steps) r.0 lifted.0 lifted.2 r.1.tails) (All-permutation (λ b. IsPassed cmp p.items p.whole (full b) b.2) r.0 lifted.0 lifted.2 r.1.passed) in
-        (q.0, q.1, record { ascends = r.2; from_inputs = all_map (In r.0) (λ x. Any (λ q. Contains q.items x) q.0) (λ x i. q.3 x (in-moved r.0 lifted.0 x lifted.2 i)) p.items r.3; passed = q.2 }) }
+    runs-are = record {
+      behind = λ p on at.
+          let t = took p in
+          let y = through-yields inner (multi_steps cmp steps) p.items p.from t.0 t.1 in
+          let up = heads-ascend its hs (inner s) st moved asc in
+          let r = run-back o steps p.items p.whole (inner p.from) (inner t.0) y (λ w. (t.2 w).1.0) (subst (λ z. All (HeadAscends cmp steps) (inner z)) (sym at) up) in
+          let lifted = in_order_of (λ (b : Bundle S A). b.0) r.0 hs (rw (r.1.are ∙ ap inner at) (IsPermutation-sym _ _ moved)) in
+          let q = inputs p.items p.whole its st.0 lifted.0 st.1 (lifted.1 ∙ sym st.2) (All-permutation (Tail cmp steps) r.0 lifted.0 lifted.2 r.1.tails) (All-permutation (λ b. IsPassed cmp p.items p.whole (full b) b.2) r.0 lifted.0 lifted.2 r.1.passed) in
+          (q.0, q.1, record { ascends = r.2; from_inputs = all_map (In r.0) (λ x. Any (λ q. Contains q.items x) q.0) (λ x i. q.3 x (in-moved r.0 lifted.0 x lifted.2 i)) p.items r.3; passed = q.2 });
+    }
 
 -- ---- where the lists of the inputs are known
 
@@ -154,10 +153,12 @@ module _ {S A : Type 0} (steps : S → Option A → S → Type 0) where
         )
 
   pub lists-are : {T : Type 0} {cmp : A → A → Ordering} {ofs : T → Option A → T → Type 0} {s : T} {its : List S} → MultiRunsAre cmp ofs s steps its → MultiListsAre cmp ofs s steps its
-  lists-are {cmp = cmp} h = record { give = λ ls g p on at w.
-      let r = h.behind p on at in
-      let k = wholes cmp p.items _ r.0 ls r.1 g (subst (λ b. All (λ q. IsPassed cmp p.items b q.items q.whole) r.0) w r.2.passed) in
-      record { ascends = r.2.ascends; from_inputs = all_map (λ x. Any (λ q. Contains q.items x) r.0) (λ x. Any (λ l. Contains l x) ls) k.1 p.items r.2.from_inputs; covers = k.0 } }
+  lists-are {cmp = cmp} h = record {
+    give = λ ls g p on at w.
+        let r = h.behind p on at in
+        let k = wholes cmp p.items _ r.0 ls r.1 g (subst (λ b. All (λ q. IsPassed cmp p.items b q.items q.whole) r.0) w r.2.passed) in
+        record { ascends = r.2.ascends; from_inputs = all_map (λ x. Any (λ q. Contains q.items x) r.0) (λ x. Any (λ l. Contains l x) ls) k.1 p.items r.2.from_inputs; covers = k.0 };
+  }
 
 pub every-all : {A : Type 0} (P : A → Type 0) (xs : List A) → ((k : ℕ) → IfSome (slice_get xs k) P) → AllByRecursion P xs
 every-all P [] h = tt

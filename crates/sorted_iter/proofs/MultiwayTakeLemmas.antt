@@ -1,5 +1,5 @@
 -- The first head of a heap goes on, or leaves.
-use Rattle.std.proofs.Common.{◌≡◌, ℕ, suc, ◌+◌, ◌-◌, ◌<◌, ◌≤◌, inl, inr, Bool, false, List, [], ◌∷◌, ◌++◌, length, slice_index_or, slice_set, swap_remove, Option, Some, None, IfSome, All, IsPermutation, sum_by, T, true, ◌&&◌, refl, sym, ap, ◌∙◌, subst, arith}
+use Rattle.std.proofs.Common.{◌≡◌, ℕ, suc, ◌+◌, ◌-◌, ◌<◌, inl, inr, Bool, false, List, [], ◌∷◌, ◌++◌, length, slice_index_or, slice_set, swap_remove, Option, Some, None, All, IsPermutation, T, true, ◌&&◌, refl, sym, ap, ◌∙◌, subst, arith}
 use Rattle.std.specs.Cmp.{IsTotalOrder, IsStrictWeakOrder, then_total, on_total, nat_cmp_total}
 use Rattle.std.specs.Iterator.{Count, IsFinite, size, MakesProgress}
 use Rattle.std.specs.List.{list_all}
@@ -9,11 +9,11 @@ use Rattle.std.specs.declared.cmp.Ordering.{Ordering}
 use Rattle.std.proofs.lemmas.List.{get_or_default}
 use Rattle.std.proofs.lemmas.List.Elements.{All-nil, All-cons, All-head, All-tail, All-append, All-from_get_or}
 use Rattle.std.proofs.lemmas.List.Sorted.{ranks_by, All-permutation, IsPermutation-refl, IsPermutation-swap_remove, sum_by-IsPermutation, sum_by_popped}
-use Rattle.std.proofs.lemmas.List.Sums.{sum_by-append, sum_by-cons}
+use Rattle.std.proofs.lemmas.List.Sums.{sum_by-append}
 use Rattle.ordered_lists.specs.Heaps.{IsHeap}
 use Rattle.ordered_lists.proofs.HeapLemmas.{first_is_least}
 use Rattle.sorted_iter.specs.declared.multiway.heads.InputHead.{InputHead}
-use Rattle.sorted_iter.specs.MultiwayHeads.{before, can_go, heads_left, heads_count, Begun, GoesOn, TakesLeast}
+use Rattle.sorted_iter.specs.MultiwayHeads.{before, can_go, heads_left, heads_count, GoesOn, TakesLeast}
 
 -- what `swap_remove(0)` leaves doesn't hang on the first element
 swap_remove-any : {X : Type 0} (xs : List X) (x y : X) → swap_remove (x ∷ xs) 0 x ≡ swap_remove (y ∷ xs) 0 y
@@ -64,7 +64,7 @@ module _ {S A : Type 0} {cmp : A → A → Ordering} (o : IsTotalOrder cmp) (ste
       let on = m.on fin in
       let q : IsPermutation ((k ∷ []) ++ hs) ks = p in
       let t = took (y ∷ hs) hs (k ∷ []) ks y (IsPermutation-refl (y ∷ hs)) q all (All-cons (can_go can left) k [] (on.0, on.1) (All-nil (can_go can left)))
-          (rw e' (omega (arith, on.2))) in
+      (rw e' (omega (arith, on.2))) in
       let low = All-tail (λ z. is_lt (cmp z.item y.item) ≡ false) y hs (least o steps y hs heap) in (
         t.0,
         (y, hs, k ∷ [], IsPermutation-refl (y ∷ hs), rw (e', g.0) refl, rw (g.0, sym e') low, inr (k.item, k.rest, rw e' g.1, ap (λ p. one_head k.item k.rest p) (rw e' g.2)), q),

@@ -1,21 +1,21 @@
 -- From the last state of a run back to the first: the runs of the inputs that stand behind it.
-use Rattle.std.proofs.Common.{◌≡◌, ℕ, zero, suc, ◌<◌, inl, inr, ◌⊎◌, ⊎_elim, Bool, true, false, List, [], ◌∷◌, ◌++◌, map, length, slice_index_or, Option, Some, None, All, Contains, IsPermutation, refl, sym, ap, ◌∙◌, subst, arith, true≢false}
+use Rattle.std.proofs.Common.{◌≡◌, ℕ, zero, suc, inl, inr, ◌⊎◌, ⊎_elim, Bool, true, false, List, [], ◌∷◌, ◌++◌, map, slice_index_or, Option, Some, All, Contains, IsPermutation, refl, sym, ap, ◌∙◌, subst, arith, true≢false}
 use Rattle.std.specs.Cmp.{IsTotalOrder}
 use Rattle.std.specs.Iterator.{Yields, DrainsIf}
 use Rattle.std.specs.List.{AllByRecursion}
 use Rattle.std.specs.List.Sorted.{IsStrictlySortedBy}
-use Rattle.std.specs.Ordering.{is_lt, is_eq}
+use Rattle.std.specs.Ordering.{is_lt}
 use Rattle.std.specs.declared.cmp.Ordering.{Ordering}
 use Rattle.std.specs.declared.cmp.Ordering.TheVariants.{Less, Equal, Greater}
-use Rattle.std.proofs.lemmas.Cmp.{alike_right, tied_back, tied_itself}
+use Rattle.std.proofs.lemmas.Cmp.{alike_right, tied_itself}
 use Rattle.std.proofs.lemmas.List.Elements.{All-nil, All-cons, All-head, All-tail, All-append, All-weaker, All-contains}
 use Rattle.std.proofs.lemmas.List.Sorted.{All-permutation, Contains-permutation, IsPermutation-sym}
 use Rattle.ordered_lists.proofs.PermutationLemmas.{in_order_of, of_read}
-use Rattle.ordered_lists.specs.Lists.{has, find}
+use Rattle.ordered_lists.specs.Lists.{has}
 use Rattle.ordered_lists.proofs.PlaceLemmas.{all_map}
 use Rattle.sorted_iter.specs.declared.multiway.heads.InputHead.{InputHead}
 use Rattle.sorted_iter.specs.MultiwayHeads.{Begun, TakesLeast}
-use Rattle.sorted_iter.specs.MultiwaySteps.{TakesEach, TakesEqual, multi_steps, IsPassed}
+use Rattle.sorted_iter.specs.MultiwaySteps.{TakesEach, multi_steps, IsPassed}
 
 -- ---- lists
 
@@ -125,8 +125,8 @@ module _ {S A : Type 0} {cmp : A → A → Ordering} (o : IsTotalOrder cmp) (ste
       let Q : InputHead S A → Type 0 = λ k. is_lt (cmp k.item x) ≡ false in (
         All-permutation (HeadAscends cmp steps) (one ++ others) ks t.7 (All-append (HeadAscends cmp steps) one others b.0 (All-tail (HeadAscends cmp steps) h others moved)),
         All-permutation Q (one ++ others) ks t.7 (All-append Q one others
-        (All-weaker (λ k. cmp h.item k.item ≡ Less) Q (λ k l. not_below_above x h.item k.item (ap (cmp x) t.4 ∙ e) l) one b.1)
-        (All-weaker (λ k. is_lt (cmp k.item y) ≡ false) Q (λ k n. not_below x y k.item e n) others t.5)),
+            (All-weaker (λ k. cmp h.item k.item ≡ Less) Q (λ k l. not_below_above x h.item k.item (ap (cmp x) t.4 ∙ e) l) one b.1)
+            (All-weaker (λ k. is_lt (cmp k.item y) ≡ false) Q (λ k n. not_below x y k.item e n) others t.5)),
       )
 
   pub each-forward : (xs : List A) (x y : A) (hs ks : List (InputHead S A)) → TakesEach cmp steps hs (y ∷ xs) ks → cmp x y ≡ Equal → AllByRecursion (λ z. cmp x z ≡ Equal) xs → All (HeadAscends cmp steps) hs
@@ -210,10 +210,10 @@ module _ {S A : Type 0} {cmp : A → A → Ordering} (o : IsTotalOrder cmp) (ste
       let u = of_read (λ (c : Bundle S A). c.0) (λ k. cmp x k.item ≡ Less) bs (subst (All (λ k. cmp x k.item ≡ Less)) (sym b.are) up) in
       let a = of_read (λ (c : Bundle S A). c.0) (HeadAscends cmp steps) bs (subst (All (HeadAscends cmp steps)) (sym b.are) asc) in
       λ k d l.
-          let c = slice_index_or bs k d in
-          let t = b.tails k d l in
-          let s = (a k d l).ascends c.1 t.0 t.1 in
-          (u k d l, all_map (λ z. cmp c.0.item z ≡ Less) (λ z. cmp x z ≡ Less) (λ z e. o.trans x c.0.item z (u k d l) e) c.1 (sorted-first cmp c.0.item c.1 s))
+      let c = slice_index_or bs k d in
+      let t = b.tails k d l in
+      let s = (a k d l).ascends c.1 t.0 t.1 in
+      (u k d l, all_map (λ z. cmp c.0.item z ≡ Less) (λ z. cmp x z ≡ Less) (λ z e. o.trans x c.0.item z (u k d l) e) c.1 (sorted-first cmp c.0.item c.1 s))
 
   more : (x : A) (w : Bool) (m : List A) (js : List (InputHead S A)) (bs : List (Bundle S A)) → All (λ b. AllByRecursion (λ z. cmp x z ≡ Less) (full b)) bs → Behind cmp steps m w js bs → Behind cmp steps (x ∷ m) w js bs
   more x w m js bs up b = record {

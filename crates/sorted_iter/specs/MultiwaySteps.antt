@@ -21,7 +21,7 @@ module _ {S A : Type 0} (cmp : A → A → Ordering) (steps : S → Option A →
   -- The item x went out, and then the items equal to it, as long as one came first. So where no head that is left is below x, each
   -- is above it.
   abbrev pub TakesEqual : List (InputHead S A) → A → List (InputHead S A) → Type 0
-  TakesEqual hs x ks = (xs : List A) × TakesEach hs (x ∷ xs) ks × AllByRecursion (λ y. cmp x y ≡ Equal) xs 
+  TakesEqual hs x ks = (xs : List A) × TakesEach hs (x ∷ xs) ks × AllByRecursion (λ y. cmp x y ≡ Equal) xs
       × (All (λ k. is_lt (cmp k.item x) ≡ false) ks → All (λ k. cmp x k.item ≡ Less) ks)
 
   -- one call of `next`

@@ -10,7 +10,6 @@ mod hint;
 mod make;
 mod stream;
 mod take;
-
 #[cfg(test)]
 mod tests;
 

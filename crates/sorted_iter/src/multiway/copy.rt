@@ -49,7 +49,8 @@ where
         ensures same { IfOk result (λ copy. ComesAlike (All (can_go I.can_next I.remaining))
             (heads_count I.remaining) I.Item.cmp (multi_steps I.Item.cmp I.next_gives)
             (union_heads self.now) (union_heads copy)) }
-        ensures in_order { IfOk result (λ copy. All (HeadAscends I.Item.cmp I.next_gives) (union_heads self.now)
+        ensures in_order { IfOk result (λ copy.
+            All (HeadAscends I.Item.cmp I.next_gives) (union_heads self.now)
             → All (HeadAscends I.Item.cmp I.next_gives) (union_heads copy)) }
     {
         let heads = clones_of(alloc, &self.heads)?;

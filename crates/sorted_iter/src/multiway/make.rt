@@ -7,11 +7,11 @@ ghost use Rattle.sorted_iter.specs.MultiwayHeads.{can_go, heads_count};
 ghost use Rattle.sorted_iter.specs.MultiwaySteps.{Started, multi_steps, MultiRunsAre, MultiListsAre};
 ghost use Rattle.sorted_iter.specs.MultiwayViews.{union_heads};
 
+use crate::marks::SortedIterator;
+use crate::multiway::MultiwayUnion;
 use crate::multiway::heads::InputHead;
 use crate::multiway::heap::heapify;
-use crate::multiway::MultiwayUnion;
 use element_core::NoMemory;
-use crate::marks::SortedIterator;
 use std::alloc::Global;
 
 // The inputs that have an item, each with its first one in hand.
@@ -23,7 +23,7 @@ where
     I::Item: Ord + Drop,
     requires sources { (j : T.IntoIter) → T.into_iter_gives iters j → T.IntoIter.can_next j
         × IsFinite (T.IntoIter.remaining j) × EachRunFrom T.IntoIter.next_gives j
-            (λ p. AllItems p (λ it. I.can_next it × IsFinite (I.remaining it))) }
+        (λ p. AllItems p (λ it. I.can_next it × IsFinite (I.remaining it))) }
     ensures can { IfOk result (λ v. All (can_go I.can_next I.remaining) v.items) }
     ensures started { IfOk result (λ v. (j : T.IntoIter) × T.into_iter_gives iters j
         × WholeRun T.IntoIter.next_gives j (λ p. Started I.next_gives p.items v.items)) }
@@ -41,7 +41,10 @@ where
 
 /// Each value that some input holds, once, ascending. Which of several equal items comes is open.
 ///
-/// The call takes the first item of each input, and all room: `next` takes none.
+/// The call asks each input for its first item, and makes a heap of those that have one, in O(k) for k inputs. All memory is
+/// taken here, and the call is refused where there is none: `next` takes none.
+///
+/// Of 1, 4, 9 and 2, 4 and 4, 8, 9 it gives 1, 2, 4, 8, 9.
 pub fn multiway_union<I: SortedIterator, T: IntoIterator<Item = I>>(
     alloc: Global,
     iters: T,
@@ -50,18 +53,19 @@ where
     I::Item: Ord + Drop,
     requires sources { (j : T.IntoIter) → T.into_iter_gives iters j → T.IntoIter.can_next j
         × IsFinite (T.IntoIter.remaining j) × EachRunFrom T.IntoIter.next_gives j
-            (λ p. AllItems p (λ it. I.can_next it × IsFinite (I.remaining it))) }
+        (λ p. AllItems p (λ it. I.can_next it × IsFinite (I.remaining it))) }
     requires in_order { (j : T.IntoIter) → T.into_iter_gives iters j
         → EachRunFrom T.IntoIter.next_gives j (λ p. AllItems p I.in_order) }
     ensures can { IfOk result (λ m. All (can_go I.can_next I.remaining) (union_heads m)) }
     ensures ends { IfOk result (λ m. IsFinite (heads_count I.remaining (union_heads m))) }
-    ensures in_order { IfOk result (λ m. All (HeadAscends I.Item.cmp I.next_gives) (union_heads m)) }
+    ensures in_order { IfOk result (λ m.
+        All (HeadAscends I.Item.cmp I.next_gives) (union_heads m)) }
     ensures gives { IfOk result (λ m. (j : T.IntoIter) × T.into_iter_gives iters j
         × WholeRun T.IntoIter.next_gives j (λ p.
-            MultiRunsAre I.Item.cmp (multi_steps I.Item.cmp I.next_gives) (union_heads m)
-                I.next_gives p.items
-            × MultiListsAre I.Item.cmp (multi_steps I.Item.cmp I.next_gives) (union_heads m)
-                I.next_gives p.items)) }
+        MultiRunsAre I.Item.cmp (multi_steps I.Item.cmp I.next_gives) (union_heads m)
+        I.next_gives p.items
+        × MultiListsAre I.Item.cmp (multi_steps I.Item.cmp I.next_gives) (union_heads m)
+        I.next_gives p.items)) }
 {
     let mut heads = heads_of(alloc, iters)?;
     heapify(&mut heads);

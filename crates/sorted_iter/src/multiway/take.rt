@@ -60,9 +60,9 @@ where
     ensures heap { IsHeap (before I.Item.cmp) heads.new.items }
     ensures can { All (can_go I.can_next I.remaining) heads.new.items }
     ensures takes { MatchOption result ((heads.new.items ≡ heads.old.items)
-            × (starts_with I.Item.cmp heads.old.items x.now ≡ false))
+        × (starts_with I.Item.cmp heads.old.items x.now ≡ false))
         (λ y. (I.Item.cmp x.now y ≡ Equal)
-            × TakesLeast I.Item.cmp I.next_gives heads.old.items y heads.new.items) }
+        × TakesLeast I.Item.cmp I.next_gives heads.old.items y heads.new.items) }
     ensures fewer { IfSome result (λ _. heads_left I.remaining heads.new.items
         < heads_left I.remaining heads.old.items) }
 {

@@ -22,7 +22,8 @@ where
     I::Item: Ord + Drop,
     requires can { All (λ it. I.can_next it × IsFinite (I.remaining it)) iters.items }
     requires ascend { All I.in_order iters.items }
-    ensures { IfOk result (λ v. (ls : List (List I.Item)) → AllZip (GivesList I.next_gives) iters.items ls
+    ensures { IfOk result (λ v. (ls : List (List I.Item))
+        → AllZip (GivesList I.next_gives) iters.items ls
         → IsMultiwayUnion I.Item.cmp ls v.items) }
 {
     Ok(multiway_union(alloc, iters)?.collect(alloc)?)
@@ -40,9 +41,10 @@ where
     requires items { (x copy : I.Item) → I.Item.is_clone x copy → I.Item.cmp x copy ≡ Equal }
     requires inputs { (s copy : I) → I.is_clone s copy
         → ComesAlike I.can_next I.remaining I.Item.cmp I.next_gives s copy }
-    ensures { IfOk result (λ v. (ls : List (List I.Item)) → AllZip (GivesList I.next_gives) iters.items ls
+    ensures { IfOk result (λ v. (ls : List (List I.Item))
+        → AllZip (GivesList I.next_gives) iters.items ls
         → (m : List I.Item) × IsMultiwayUnion I.Item.cmp ls m
-            × AllZip (λ x y. I.Item.cmp x y ≡ Equal) m v.items) }
+        × AllZip (λ x y. I.Item.cmp x y ≡ Equal) m v.items) }
 {
     let all = multiway_union(alloc, iters)?;
     Ok(all.try_clone(alloc)?.collect(alloc)?)

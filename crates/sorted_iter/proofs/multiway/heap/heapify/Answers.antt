@@ -1,4 +1,4 @@
-use Rattle.std.proofs.Common.{arith, subst, ◌≡◌, ◌-◌, ◌+◌, ◌≤◌}
+use Rattle.std.proofs.Common.{arith, subst, ◌≡◌, ◌-◌, ◌+◌}
 use Rattle.std.proofs.lemmas.List.Sorted.{IsPermutation-trans, length_permutation}
 use Rattle.ordered_lists.specs.Heaps.{IsHeapFrom}
 use Rattle.ordered_lists.proofs.HeapLemmas.{one_before}

@@ -1,4 +1,4 @@
-use Rattle.std.proofs.Common.{rules, ◌≡◌, ◌<◌, ◌/◌, ◌∙◌, sym, arith, true, false, length, slice_index_or}
+use Rattle.std.proofs.Common.{◌≡◌, ◌<◌, ◌∙◌, sym, arith, true, false, length, slice_index_or}
 use Rattle.std.proofs.lemmas.List.{get_or_default}
 use Rattle.std.proofs.lemmas.List.Sorted.{IsPermutation-trans, IsPermutation-swap}
 use Rattle.ordered_lists.proofs.HeapLemmas.{below_child, moves_down, stays, stays_last}
@@ -15,7 +15,7 @@ loop-place-preserved g c =
     let k = c.lesser_child-child.ensures in
     let inside : i < length xs = omega (arith, k.within, below_child i j k.child) in
     let up : (d : _) → before g.I.Item.Ord.cmp (slice_index_or xs j d) (slice_index_or xs i d) ≡ true = λ d.
-        rw (get_or_default xs j d _ k.within ∙ sym c.index.ensures, get_or_default xs i d _ inside ∙ sym c.index-in-loop-place.ensures) (sym c.is_before.ensures ∙ c.if-not-is_before.false) in (
+    rw (get_or_default xs j d _ k.within ∙ sym c.index.ensures, get_or_default xs i d _ inside ∙ sym c.index-in-loop-place.ensures) (sym c.is_before.ensures ∙ c.if-not-is_before.false) in (
       IsPermutation-trans _ _ _ c.loop-place.invariant.0 (IsPermutation-swap _ _ i j inside k.within c.swap.ensures.items),
       λ from h. moves_down o xs from i j (c.loop-place.invariant.1 from h) k c.swap.new.self.items up c.swap.ensures.by_index (omega (arith, c.swap.ensures.len, c.loop-place.heads.ok.0, c.swap.new.self.ok.0)),
     )
@@ -29,7 +29,7 @@ returns-then-not-is_before-clause-heap g c = λ from h.
     let k = c.lesser_child-child.ensures in
     let inside : i < length xs = omega (arith, k.within, below_child i j k.child) in
     let low : (d : _) → before g.I.Item.Ord.cmp (slice_index_or xs j d) (slice_index_or xs i d) ≡ false = λ d.
-        rw (get_or_default xs j d _ k.within ∙ sym c.index.ensures, get_or_default xs i d _ inside ∙ sym c.index-in-loop-place.ensures) (sym c.is_before.ensures ∙ c.if-not-is_before.true) in
+    rw (get_or_default xs j d _ k.within ∙ sym c.index.ensures, get_or_default xs i d _ inside ∙ sym c.index-in-loop-place.ensures) (sym c.is_before.ensures ∙ c.if-not-is_before.true) in
     stays o xs from i j (c.loop-place.invariant.1 from h) k low
 
 pub returns-clause-heap : goal.returns-clause-heap

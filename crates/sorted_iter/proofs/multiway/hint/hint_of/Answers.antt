@@ -1,8 +1,8 @@
-use Rattle.std.proofs.Common.{rules, Some, ◌≡◌, ◌+◌, ◌-◌, ◌^◌, min, max, List, [], ◌∷◌, ◌++◌, take, sym, subst, ap, ap₂, ◌∙◌, arith}
+use Rattle.std.proofs.Common.{rules, Some, ◌≡◌, ◌+◌, ◌-◌, ◌^◌, min, max, [], ◌∷◌, ◌++◌, take, sym, subst, ap, ◌∙◌, arith}
 use Rattle.std.proofs.lemmas.Grind.{common_steps}
 use Rattle.std.specs.List.{AllZip}
 use Rattle.sorted_iter.proofs.MultiwayHintLemmas.{zip-push, greatest_lower-push, fitting-push}
-use Rattle.sorted_iter.specs.MultiwayHints.{fitting, Hint, IsHint, known_sum}
+use Rattle.sorted_iter.specs.MultiwayHints.{fitting, IsHint, known_sum}
 use Rattle.sorted_iter.proofs.multiway.hint.hint_of.Goals as goal
 
 pub loop-head-preserved : goal.loop-head-preserved

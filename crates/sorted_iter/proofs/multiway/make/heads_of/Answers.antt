@@ -1,4 +1,4 @@
-use Rattle.std.proofs.Common.{◌≡◌, IfSome, Some, inl, inr, refl, sym, subst, rules, append-nil, length, List, [], ◌∷◌, ◌++◌}
+use Rattle.std.proofs.Common.{IfSome, inl, inr, refl, sym, subst, append-nil, length, List, [], ◌∷◌, ◌++◌}
 use Rattle.std.proofs.iter.runs.Made.{run_of_turn, run_of_exit, seen}
 use Rattle.std.proofs.lemmas.List.Elements.{All-push}
 use Rattle.std.specs.Iterator.{IsFinite}
@@ -6,7 +6,6 @@ use Rattle.sorted_iter.specs.declared.multiway.heads.InputHead.{InputHead}
 use Rattle.sorted_iter.specs.MultiwayHeads.{can_go}
 use Rattle.sorted_iter.specs.MultiwaySteps.{Started}
 use Rattle.sorted_iter.proofs.MultiwayStartLemmas.{started-more}
-use Rattle.sorted_iter.proofs.multiway.make.heads_of.Given.{Over}
 use Rattle.sorted_iter.proofs.multiway.make.heads_of.Goals as goal
 
 pub loop-it-preserved-in-Continue-1 : goal.loop-it-preserved-in-Continue-1

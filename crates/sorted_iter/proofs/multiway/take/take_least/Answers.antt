@@ -12,7 +12,7 @@ on : (g : Over) (c : goal.After-sift_down g)
 on g c =
     let pos : 0 < length c.args.heads.now.items = search rules in
     took_on g.met.I.Item.Ord.total g.I.Iterator.next_gives g.I.Iterator.can_next g.I.Iterator.remaining c.args.heads.now.items c.sift_down.new.heads.items c.index_mut.result.now c.advance.new.self
-        c.in-Some.item pos c.index_mut.ensures.value c.sift_down.ensures.same c.requires.heap c.requires.can c.in-Some.ensures.steps c.in-Some.ensures.goes
+    c.in-Some.item pos c.index_mut.ensures.value c.sift_down.ensures.same c.requires.heap c.requires.can c.in-Some.ensures.steps c.in-Some.ensures.goes
 
 last : (g : Over) (c : goal.After-drop-head g)
     → All (can_go g.I.Iterator.can_next g.I.Iterator.remaining) c.sift_down-in-None.new.heads.items
@@ -21,8 +21,8 @@ last : (g : Over) (c : goal.After-drop-head g)
 last g c =
     let pos : 0 < length c.args.heads.now.items = search rules in
     took_last g.met.I.Item.Ord.total g.I.Iterator.next_gives g.I.Iterator.can_next g.I.Iterator.remaining c.args.heads.now.items c.swap_remove-head.new.self.items c.sift_down-in-None.new.heads.items
-        c.index_mut.result.now c.advance.new.self c.swap_remove-head.result pos c.index_mut.ensures.value c.swap_remove-head.ensures.value c.swap_remove-head.ensures.items c.sift_down-in-None.ensures.same
-        c.requires.heap c.requires.can c.in-None.ensures.steps
+    c.index_mut.result.now c.advance.new.self c.swap_remove-head.result pos c.index_mut.ensures.value c.swap_remove-head.ensures.value c.swap_remove-head.ensures.items c.sift_down-in-None.ensures.same
+    c.requires.heap c.requires.can c.in-None.ensures.steps
 
 pub returns-in-Some-clause-can : goal.returns-in-Some-clause-can
 returns-in-Some-clause-can g c = (on g c).0

@@ -1,4 +1,4 @@
-use Rattle.std.proofs.Common.{rules, subst, Ok}
+use Rattle.std.proofs.Common.{subst, Ok}
 use Rattle.std.specs.Iterator.{IsFinite}
 use Rattle.sorted_iter.proofs.SourceLists.{list-of_into_iter, items-of_run}
 use Rattle.sorted_iter.specs.MultiwaySteps.{MultiListsAre}

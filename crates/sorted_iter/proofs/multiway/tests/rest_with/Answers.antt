@@ -1,4 +1,3 @@
-use Rattle.std.proofs.Common.{rules, subst}
 use Rattle.std.specs.Iterator.{IsFinite}
 use Rattle.sorted_iter.proofs.MultiwayCallers.{all-of_vec}
 use Rattle.sorted_iter.specs.MultiwayLaws.{multi-goes_on}

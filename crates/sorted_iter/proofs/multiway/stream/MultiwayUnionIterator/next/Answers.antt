@@ -1,4 +1,4 @@
-use Rattle.std.proofs.Common.{◌≡◌, ◌∷◌, [], ◌++◌, ◌<◌, arith, rules, subst, sym}
+use Rattle.std.proofs.Common.{◌≡◌, ◌∷◌, [], ◌++◌, ◌<◌, arith, subst, sym}
 use Rattle.std.specs.declared.cmp.Ordering.TheVariants.{Equal}
 use Rattle.sorted_iter.specs.MultiwayHeads.{heads_left}
 use Rattle.sorted_iter.specs.MultiwaySteps.{TakesEach}

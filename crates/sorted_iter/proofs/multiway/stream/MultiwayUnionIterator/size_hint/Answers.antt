@@ -1,4 +1,4 @@
-use Rattle.std.proofs.Common.{◌≡◌, sym, subst, ap, IfSome}
+use Rattle.std.proofs.Common.{sym, subst, ap, IfSome}
 use Rattle.std.specs.Iterator.{UpTo}
 use Rattle.std.specs.Iterator.SizeHint.{IsWithinCount}
 use Rattle.sorted_iter.proofs.MultiwayHintLemmas.{lower_within, upper_above, hint-bounds}
