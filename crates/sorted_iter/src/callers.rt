@@ -1,10 +1,17 @@
 //! Callers as a user would write them, each proved to learn what it needs.
-ghost use Rattle.std.specs.Prelude.{◌≡◌, IfSome, Some, Option};
+#![tactic(auto, using(crate::specs::Sources::sources, crate::proofs::Literals::literals))]
+
+ghost use Rattle.std.specs.Prelude.{◌≡◌, IfOk, IfSome, Some, Option};
+ghost use Rattle.std.specs.Iterator.{IsFinite};
 ghost use Rattle.ordered_lists.specs.Lists.{union};
 ghost use Rattle.sorted_iter.specs.Orders.{RunsAre};
 ghost use Rattle.sorted_iter.specs.Streams.{union_steps};
+ghost use Rattle.sorted_iter.specs.Subsets.{TellsOfLists, is_within};
 
-use crate::{SortedIterator, Union};
+use crate::{AssumeSortedByItemExt, SortedIterator, Union};
+use std::alloc::{AllocError, Global};
+use std::collections::{BTreeMap, BTreeSet};
+use std::iter::once;
 
 /// The first item, and then the union of the rest with another stream.
 pub(crate) fn union_after_first<I: SortedIterator, J: SortedIterator<Item = I::Item>>(
@@ -23,4 +30,57 @@ where
 {
     let first = left.next()?;
     Some((first, left.union(right)))
+}
+
+/// The items of two sets that are given up.
+pub(crate) fn items_of_either<K: Ord + Drop>(
+    alloc: Global,
+    a: BTreeSet<K>,
+    b: BTreeSet<K>,
+) -> Result<Vec<K>, AllocError>
+    ensures { IfOk result (λ v. v.items ≡ union K.cmp a.keys b.keys) }
+{
+    a.into_iter().union(b.into_iter()).collect(alloc)
+}
+
+/// The keys that two maps have in common, as a stream.
+pub(crate) fn shared_keys<K: Ord + Copy, V, W>(
+    alloc: Global,
+    a: &BTreeMap<K, V>,
+    b: &BTreeMap<K, W>,
+) -> Result<Vec<K>, AllocError> {
+    a.keys().intersection(b.keys()).copied().collect(alloc)
+}
+
+/// An array that is written out, and a range.
+pub(crate) fn written_out(alloc: Global) -> Result<Vec<u32>, AllocError> {
+    let listed = [1u32, 2, 5].iter().copied().assume_sorted_by_item();
+    listed.union(2..4).collect(alloc)
+}
+
+/// A stream without its first item and without those that are odd, and one more item.
+pub(crate) fn even_with_one_more(alloc: Global) -> Result<Vec<u32>, AllocError> {
+    let even = (0..9u32).skip(1).filter(|x| *x % 2 == 0);
+    even.union(once(5)).collect(alloc)
+}
+
+/// The first items of a stream: `take` and then `fuse`.
+pub(crate) fn first_of_union(alloc: Global, n: usize) -> Result<Vec<u32>, AllocError> {
+    let first = (0..9u32).take(n).fuse();
+    first.union(Some(4).into_iter().map(|x| x + 1)).collect(alloc)
+}
+
+/// Whether one stream is within another.
+pub(crate) fn is_part_of<I: SortedIterator, J: SortedIterator<Item = I::Item>>(a: I, b: J) -> bool
+where
+    I::Item: Ord + Drop,
+    requires can_a { I.can_next a }
+    requires can_b { J.can_next b }
+    requires finite_a { IsFinite (I.remaining a) }
+    requires finite_b { IsFinite (J.remaining b) }
+    requires a_ascends { I.in_order a }
+    requires b_ascends { J.in_order b }
+    ensures { TellsOfLists I.Item.cmp (is_within I.Item.cmp) result I.next_gives a J.next_gives b }
+{
+    a.is_subset(b)
 }
