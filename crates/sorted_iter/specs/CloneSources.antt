@@ -7,6 +7,9 @@ use Rattle.std.specs.Borrow.{Bor}
 use Rattle.std.specs.declared.slice.Iter.{Iter}
 use Rattle.std.specs.declared.iter.Copied.{Copied}
 use Rattle.sorted_iter.specs.Orders.{Rests, StaysEnded}
+use Rattle.std.specs.Option.{option_copied}
+use Rattle.sorted_iter.specs.declared.marks.AssumeSortedByItem.{AssumeSortedByItem}
+use Rattle.sorted_iter.specs.Streams.{assumed_source, assumed_steps}
 use Rattle.sorted_iter.specs.Copies.{GoesAlike, ClonesGoAlike}
 
 -- whatever a call on a clone does, a call on its source may do, and what they leave are a clone and its source again
@@ -44,3 +47,20 @@ module _ {S A : Type 0} (clones : S → S → Type 0) (can : S → Type 0) (left
           (i.0, i.1, λ e. let j = follows i.0 d.0 (d.2 e).0 None i.2 (d.2 e).1 in (j.0, j.1));
     };
   }
+
+-- `iter().copied()` of a slice, handed to `assume_sorted_by_item`
+module _ {X : Type 0} where
+  abbrev pub listed_rest : AssumeSortedByItem (Copied (Iter X)) → List X
+  listed_rest s = iter_rest (copied_source (assumed_source s))
+
+  abbrev listed_steps : AssumeSortedByItem (Copied (Iter X)) → Option X → AssumeSortedByItem (Copied (Iter X)) → Type 0
+  listed_steps = assumed_steps (copied_steps (iter_steps {A = X}))
+
+  listed-follows : (s t u : AssumeSortedByItem (Copied (Iter X))) (r : Option X) (o : Option (Bor X)) → listed_rest t ≡ listed_rest s → iter_steps (copied_source (assumed_source t)) o (copied_source (assumed_source u)) → r ≡ option_copied o
+      → (v : AssumeSortedByItem (Copied (Iter X))) × listed_steps s r v × (listed_rest u ≡ listed_rest v)
+  listed-follows s t u r None c k e = (s, (None, (ap length (sym c) ∙ k.0, refl), e), ap iter_rest k.1 ∙ c)
+  listed-follows s t u r (Some x) c k e = (u, (Some x, sym c ∙ k, e), refl)
+
+  pub clones-of_listed : (can : AssumeSortedByItem (Copied (Iter X)) → Type 0) (left : AssumeSortedByItem (Copied (Iter X)) → Count) → ((s t : AssumeSortedByItem (Copied (Iter X))) → can s → can t) → ((s t : AssumeSortedByItem (Copied (Iter X))) → IsFinite (left s) → IsFinite (left t))
+      → ClonesGoAlike (λ s t. listed_rest t ≡ listed_rest s) can left listed_steps
+  clones-of_listed can left callable finite = clones-by_steps (λ s t. listed_rest t ≡ listed_rest s) can left listed_steps (λ s t c k. callable s t k) (λ s t c k. finite s t k) (λ s t u r c k. listed-follows s t u r k.0 c k.1 k.2)

@@ -3,12 +3,15 @@
 
 ghost use Rattle.std.specs.Prelude.{◌≡◌, IfOk, IfSome, Some, Option};
 ghost use Rattle.std.specs.Iterator.{IsFinite};
+ghost use Rattle.std.specs.List.Sorted.{IsStrictlySortedBy};
+ghost use Rattle.std.specs.Ordering.{nat_cmp};
 ghost use Rattle.ordered_lists.specs.Lists.{union};
 ghost use Rattle.sorted_iter.specs.Orders.{RunsAre};
 ghost use Rattle.sorted_iter.specs.Streams.{union_steps};
 ghost use Rattle.sorted_iter.specs.Subsets.{TellsOfLists, is_within};
 
 use crate::{AssumeSortedByItemExt, SortedIterator, Union};
+use element_core::NoMemory;
 use std::alloc::{AllocError, Global};
 use std::collections::{BTreeMap, BTreeSet};
 use std::iter::once;
@@ -67,7 +70,7 @@ pub(crate) fn even_with_one_more(alloc: Global) -> Result<Vec<u32>, AllocError> 
 /// The first items of a stream: `take` and then `fuse`.
 pub(crate) fn first_of_union(alloc: Global, n: usize) -> Result<Vec<u32>, AllocError> {
     let first = (0..9u32).take(n).fuse();
-    first.union(Some(4).into_iter().map(|x| x + 1)).collect(alloc)
+    first.union(Some(14).into_iter().map(|x| x / 2)).collect(alloc)
 }
 
 /// Whether one stream is within another.
@@ -83,4 +86,68 @@ where
     ensures { TellsOfLists I.Item.cmp (is_within I.Item.cmp) result I.next_gives a J.next_gives b }
 {
     a.is_subset(b)
+}
+
+/// What is left of the union after its first item, twice: of the stream and of a copy of it.
+pub(crate) fn rest_of_union_twice(
+    alloc: Global,
+    a: &[u32],
+    b: &[u32],
+) -> Result<(Vec<u32>, Vec<u32>), NoMemory>
+    requires left { IsStrictlySortedBy nat_cmp a.now }
+    requires right { IsStrictlySortedBy nat_cmp b.now }
+{
+    let left = a.iter().copied().assume_sorted_by_item();
+    let mut stream = left.union(b.iter().copied().assume_sorted_by_item());
+    drop(stream.next());
+    let copy = stream.try_clone()?;
+    Ok((stream.collect(alloc)?, copy.collect(alloc)?))
+}
+
+/// What is left of the intersection after its first item, twice: of the stream and of a copy of it.
+pub(crate) fn rest_of_intersection_twice(
+    alloc: Global,
+    a: &[u32],
+    b: &[u32],
+) -> Result<(Vec<u32>, Vec<u32>), NoMemory>
+    requires left { IsStrictlySortedBy nat_cmp a.now }
+    requires right { IsStrictlySortedBy nat_cmp b.now }
+{
+    let left = a.iter().copied().assume_sorted_by_item();
+    let mut stream = left.intersection(b.iter().copied().assume_sorted_by_item());
+    drop(stream.next());
+    let copy = stream.try_clone()?;
+    Ok((stream.collect(alloc)?, copy.collect(alloc)?))
+}
+
+/// What is left of the difference after its first item, twice: of the stream and of a copy of it.
+pub(crate) fn rest_of_difference_twice(
+    alloc: Global,
+    a: &[u32],
+    b: &[u32],
+) -> Result<(Vec<u32>, Vec<u32>), NoMemory>
+    requires left { IsStrictlySortedBy nat_cmp a.now }
+    requires right { IsStrictlySortedBy nat_cmp b.now }
+{
+    let left = a.iter().copied().assume_sorted_by_item();
+    let mut stream = left.difference(b.iter().copied().assume_sorted_by_item());
+    drop(stream.next());
+    let copy = stream.try_clone()?;
+    Ok((stream.collect(alloc)?, copy.collect(alloc)?))
+}
+
+/// What is left of the symmetric difference after its first item, twice: of the stream and of a copy of it.
+pub(crate) fn rest_of_symmetric_difference_twice(
+    alloc: Global,
+    a: &[u32],
+    b: &[u32],
+) -> Result<(Vec<u32>, Vec<u32>), NoMemory>
+    requires left { IsStrictlySortedBy nat_cmp a.now }
+    requires right { IsStrictlySortedBy nat_cmp b.now }
+{
+    let left = a.iter().copied().assume_sorted_by_item();
+    let mut stream = left.symmetric_difference(b.iter().copied().assume_sorted_by_item());
+    drop(stream.next());
+    let copy = stream.try_clone()?;
+    Ok((stream.collect(alloc)?, copy.collect(alloc)?))
 }
