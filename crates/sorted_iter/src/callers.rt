@@ -10,7 +10,7 @@ ghost use Rattle.sorted_iter.specs.Orders.{RunsAre};
 ghost use Rattle.sorted_iter.specs.Streams.{union_steps};
 ghost use Rattle.sorted_iter.specs.Subsets.{TellsOfLists, is_within};
 
-use crate::{AssumeSortedByItemExt, SortedIterator, Union};
+use crate::{AssumeSortedByItemExt, OneOrLess, SortedIterator, Union};
 use element_core::NoMemory;
 use std::alloc::{AllocError, Global};
 use std::collections::{BTreeMap, BTreeSet};
@@ -28,8 +28,8 @@ where
     requires right_ascends { J.in_order right }
     ensures { IfSome result (λ p. (t : I) × I.next_gives left (Some p.0) t
         × RunsAre I.Item.cmp (union I.Item.cmp)
-            (union_steps I.Item.cmp I.next_gives J.next_gives) p.1 I.next_gives t J.next_gives
-            right) }
+        (union_steps I.Item.cmp I.next_gives J.next_gives) p.1 I.next_gives t J.next_gives
+        right) }
 {
     let first = left.next()?;
     Some((first, left.union(right)))
@@ -70,7 +70,9 @@ pub(crate) fn even_with_one_more(alloc: Global) -> Result<Vec<u32>, AllocError> 
 /// The first items of a stream: `take` and then `fuse`.
 pub(crate) fn first_of_union(alloc: Global, n: usize) -> Result<Vec<u32>, AllocError> {
     let first = (0..9u32).take(n).fuse();
-    first.union(Some(14).into_iter().map(|x| x / 2)).collect(alloc)
+    first
+        .union(Some(14).into_iter().map(|x| x / 2))
+        .collect(alloc)
 }
 
 /// Whether one stream is within another.
@@ -88,8 +90,8 @@ where
     a.is_subset(b)
 }
 
-/// What is left of the union after its first item, twice: of the stream and of a copy of it.
-pub(crate) fn rest_of_union_twice(
+/// The union, and what is left of it after its first item, each by a copy of the stream.
+pub(crate) fn copies_of_union(
     alloc: Global,
     a: &[u32],
     b: &[u32],
@@ -99,13 +101,14 @@ pub(crate) fn rest_of_union_twice(
 {
     let left = a.iter().copied().assume_sorted_by_item();
     let mut stream = left.union(b.iter().copied().assume_sorted_by_item());
+    let fresh = stream.try_clone()?;
     drop(stream.next());
-    let copy = stream.try_clone()?;
-    Ok((stream.collect(alloc)?, copy.collect(alloc)?))
+    let rest = stream.try_clone()?;
+    Ok((fresh.collect(alloc)?, rest.collect(alloc)?))
 }
 
-/// What is left of the intersection after its first item, twice: of the stream and of a copy of it.
-pub(crate) fn rest_of_intersection_twice(
+/// The intersection, and what is left of it after its first item, each by a copy of the stream.
+pub(crate) fn copies_of_intersection(
     alloc: Global,
     a: &[u32],
     b: &[u32],
@@ -115,13 +118,14 @@ pub(crate) fn rest_of_intersection_twice(
 {
     let left = a.iter().copied().assume_sorted_by_item();
     let mut stream = left.intersection(b.iter().copied().assume_sorted_by_item());
+    let fresh = stream.try_clone()?;
     drop(stream.next());
-    let copy = stream.try_clone()?;
-    Ok((stream.collect(alloc)?, copy.collect(alloc)?))
+    let rest = stream.try_clone()?;
+    Ok((fresh.collect(alloc)?, rest.collect(alloc)?))
 }
 
-/// What is left of the difference after its first item, twice: of the stream and of a copy of it.
-pub(crate) fn rest_of_difference_twice(
+/// The difference, and what is left of it after its first item, each by a copy of the stream.
+pub(crate) fn copies_of_difference(
     alloc: Global,
     a: &[u32],
     b: &[u32],
@@ -131,13 +135,14 @@ pub(crate) fn rest_of_difference_twice(
 {
     let left = a.iter().copied().assume_sorted_by_item();
     let mut stream = left.difference(b.iter().copied().assume_sorted_by_item());
+    let fresh = stream.try_clone()?;
     drop(stream.next());
-    let copy = stream.try_clone()?;
-    Ok((stream.collect(alloc)?, copy.collect(alloc)?))
+    let rest = stream.try_clone()?;
+    Ok((fresh.collect(alloc)?, rest.collect(alloc)?))
 }
 
-/// What is left of the symmetric difference after its first item, twice: of the stream and of a copy of it.
-pub(crate) fn rest_of_symmetric_difference_twice(
+/// The symmetric difference, and what is left of it after its first item, each by a copy of the stream.
+pub(crate) fn copies_of_symmetric_difference(
     alloc: Global,
     a: &[u32],
     b: &[u32],
@@ -147,7 +152,41 @@ pub(crate) fn rest_of_symmetric_difference_twice(
 {
     let left = a.iter().copied().assume_sorted_by_item();
     let mut stream = left.symmetric_difference(b.iter().copied().assume_sorted_by_item());
+    let fresh = stream.try_clone()?;
     drop(stream.next());
-    let copy = stream.try_clone()?;
-    Ok((stream.collect(alloc)?, copy.collect(alloc)?))
+    let rest = stream.try_clone()?;
+    Ok((fresh.collect(alloc)?, rest.collect(alloc)?))
+}
+
+/// The pairs of a stream, and what is left of them after the first one, each by a copy of the stream.
+pub(crate) fn copies_of_pairs(
+    alloc: Global,
+    a: &[u32],
+) -> Result<(Vec<(u32, ())>, Vec<(u32, ())>), NoMemory>
+    requires { IsStrictlySortedBy nat_cmp a.now }
+{
+    let mut stream = a.iter().copied().assume_sorted_by_item().pairs();
+    let fresh = stream.try_clone()?;
+    drop(stream.next());
+    let rest = stream.try_clone()?;
+    Ok((fresh.collect(alloc)?, rest.collect(alloc)?))
+}
+
+/// A stream by assumption and its copy.
+pub(crate) fn copy_of_assumed(alloc: Global, a: &[u32]) -> Result<Vec<u32>, NoMemory>
+    requires { IsStrictlySortedBy nat_cmp a.now }
+{
+    let mut stream = a.iter().copied().assume_sorted_by_item();
+    drop(stream.next());
+    Ok(stream.try_clone()?.collect(alloc)?)
+}
+
+/// Whether an item comes.
+pub(crate) fn has_item<I: OneOrLess>(mut it: I) -> bool
+where
+    I::Item: Drop,
+    requires can { I.can_next it }
+    requires short { I.one_or_less it }
+{
+    it.next().is_some()
 }

@@ -18,13 +18,18 @@ mod union;
 pub use crate::ahead::{Ahead, Head};
 pub use crate::difference::Difference;
 pub use crate::intersection::Intersection;
-pub use crate::marks::{AssumeSortedByItem, AssumeSortedByItemExt, OneOrLess, SortedByItem, SortedIterator};
+pub use crate::marks::{
+    AssumeSortedByItem, AssumeSortedByItemExt, OneOrLess, SortedByItem, SortedIterator,
+};
 pub use crate::pairs::Pairs;
 #[doc(hidden)]
 pub use crate::sides::Sides;
 pub use crate::symmetric_difference::SymmetricDifference;
 pub use crate::union::Union;
 
+#[cfg(test)]
 mod callers;
+#[cfg(test)]
+mod stream_tests;
 #[cfg(test)]
 mod tests;

@@ -1,8 +1,0 @@
-use Rattle.sorted_iter.specs.CloneSources.{clones-of_listed}
-use Rattle.sorted_iter.proofs.callers.rest_of_union_twice.Goals as goal
-
-pub try_clone-requires-clause-left : goal.try_clone-requires-clause-left
-try_clone-requires-clause-left c = clones-of_listed _ _ (λ _ _ k. k) (λ _ _ k. k)
-
-pub try_clone-requires-clause-right : goal.try_clone-requires-clause-right
-try_clone-requires-clause-right c = clones-of_listed _ _ (λ _ _ k. k) (λ _ _ k. k)
