@@ -81,7 +81,7 @@ module _ {A : Type 0} {cmp : A → A → Ordering} (o : IsTotalOrder cmp) (R : A
     walk_from-alike x z xs zs on on' h k f (y ∷ ys) [] g = absurd g
     walk_from-alike x z xs zs on on' h k f (y ∷ ys) (w ∷ ws) g =
         match-alike (cmp x y) (cmp z w) _ _ _ _ _ _ (like_both x z y w h g.0) (keep-alike left x z (on (y ∷ ys)) (on' (w ∷ ws)) h (f (y ∷ ys) (w ∷ ws) g)) (keep-alike both x z (on ys) (on' ws) h (f ys ws g.1))
-            (keep-alike right y w (walk_from cmp left both right x xs on ys) (walk_from cmp left both right z zs on' ws) g.0 (walk_from-alike x z xs zs on on' h k f ys ws g.1))
+        (keep-alike right y w (walk_from cmp left both right x xs on ys) (walk_from cmp left both right z zs on' ws) g.0 (walk_from-alike x z xs zs on on' h k f ys ws g.1))
 
     pub walk-alike : (xs zs ys ws : List A) → AllZip R xs zs → AllZip R ys ws → AllZip R (walk cmp left both right xs ys) (walk cmp left both right zs ws)
     walk-alike [] [] ys ws h k = alone-alike right ys ws k

@@ -28,7 +28,7 @@ module _ {S A : Type 0} (steps : S → Option A → S → Type 0) where
     paired-runs p on at =
         let d = took p in
         let ran : DrainsIf steps (p.whole ≡ true) x (firsts_of p.items) =
-            subst (λ k. DrainsIf steps (p.whole ≡ true) k (firsts_of p.items)) (ap pairs_source at ∙ same) (pairs_source d.0, paired-yields p.items p.from d.0 d.1, λ w. (pairs_source (d.2 w).0, (d.2 w).1)) in
+        subst (λ k. DrainsIf steps (p.whole ≡ true) k (firsts_of p.items)) (ap pairs_source at ∙ same) (pairs_source d.0, paired-yields p.items p.from d.0 d.1, λ w. (pairs_source (d.2 w).0, (d.2 w).1)) in
         (run steps x (firsts_of p.items) p.whole ran, refl, (paired-firsts p.items, refl))
 
     pub paired-lists : (xs : List A) → GivesList steps x xs → GivesList (pairs_steps steps) s (map paired xs)

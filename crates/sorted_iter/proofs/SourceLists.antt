@@ -3,6 +3,7 @@ use Rattle.std.proofs.Common.{◌≡◌, true, List, [], ◌∷◌, Option, Some
 use Rattle.std.specs.Prelude.{IfOk, Result}
 use Rattle.std.specs.Iterator.{Yields, DrainsIf, AlwaysYields}
 use Rattle.std.specs.Iterator.Runs.{Run, EveryRun, ItemsAre}
+use Rattle.std.specs.Map.Iter.{TakesFirst}
 use Rattle.std.specs.Iterator.Adapters.{copied_steps, copied_source}
 use Rattle.std.specs.Option.{option_copied}
 use Rattle.std.specs.Borrow.{Bor}
@@ -47,6 +48,10 @@ list-of_copied {X} it xs e = record { runs = list-of_rest (copied_steps (iter_st
     none : (s t : Iter X) (o : Option (Bor X)) → iter_steps s o t → None ≡ option_copied o → iter_rest s ≡ []
     none s t None k e = empty (iter_rest s) k.0
     none s t (Some y) k e = absurd cc
+
+-- the iterator of a `BTreeSet` that is given up
+pub list-of_owned : {K : Type 0} (it xs : List K) → it ≡ xs → GivesList (TakesFirst (λ (k : K). k)) it xs
+list-of_owned {K} it xs e = record { runs = list-of_rest (TakesFirst (λ (k : K). k)) (λ l. l) (λ s t x k. k) (λ s t k. k.0) xs it e }
 
 -- a whole run has the list
 pub items-of_run : {S A : Type 0} {steps : S → Option A → S → Type 0} {s : S} {xs : List A} (p : Run steps) → p.from ≡ s → p.whole ≡ true → GivesList steps s xs → p.items ≡ xs

@@ -62,6 +62,7 @@ where
     }
 
     /// The item that is held, or else the next one of the source. It takes no memory of its own.
+    #[inline(always)]
     pub fn take(&mut self) -> Option<I::Item>
         requires { ahead_can I.can_next self.old }
         ensures { Takes I.can_next I.remaining I.next_gives self.old result self.new }
@@ -96,6 +97,7 @@ where
     }
 
     /// Holds an item, which the next `take` gives, in place of one that is held. O(1), and takes no memory.
+    #[inline(always)]
     pub fn put_back(&mut self, item: I::Item)
         ensures { PutsBack self.old item self.new }
     {

@@ -14,17 +14,24 @@ mod std_marks;
 mod symmetric_difference;
 mod union;
 
+// Their fields are read by the contracts of the streams and by the proofs of crates above.
+#[doc(hidden)]
 pub use crate::ahead::{Ahead, Head};
 pub use crate::difference::Difference;
 pub use crate::intersection::Intersection;
+pub use crate::marks::{
+    AssumeSortedByItem, AssumeSortedByItemExt, OneOrLess, SortedByItem, SortedIterator,
+};
 pub use crate::multiway::{InputHead, MultiwayUnion, multiway_union};
-pub use crate::marks::{AssumeSortedByItem, AssumeSortedByItemExt, OneOrLess, SortedByItem, SortedIterator};
 pub use crate::pairs::Pairs;
+#[doc(hidden)]
 pub use crate::sides::Sides;
 pub use crate::symmetric_difference::SymmetricDifference;
 pub use crate::union::Union;
 
 #[cfg(test)]
 mod callers;
+#[cfg(test)]
+mod stream_tests;
 #[cfg(test)]
 mod tests;

@@ -24,6 +24,7 @@ impl<I: Iterator> Iterator for Pairs<I> {
 
     ghost remaining = { λ s. I.remaining (pairs_source s) };
 
+    #[inline]
     fn next(&mut self) -> Option<(I::Item, ())> {
         match self.source.next() {
             Some(item) => Some((item, ())),

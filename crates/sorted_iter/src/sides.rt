@@ -57,6 +57,7 @@ where
 {
     /// The next item of the walk that is wanted. It asks each source at most once for each item that it passes over,
     /// and takes no memory of its own.
+    #[inline(always)]
     pub(crate) fn next(&mut self, wants: Wants) -> Option<I::Item>
         requires { sides_can I.can_next I.remaining J.can_next J.remaining self.old }
         ensures steps { StepsTwo (walk I.Item.cmp wants.left wants.both wants.right) I.next_gives

@@ -9,4 +9,4 @@ pub returns : goal.returns
 returns g c =
     let total = g.met.I.Item.Ord.total in
     copy-of difference_sides g.I.Item.Ord.cmp g.I.Item.PartialEq.eq (difference g.I.Item.Ord.cmp) true false false g.I.Iterator.can_next g.I.Iterator.remaining g.I.Iterator.next_gives g.J.Iterator.can_next g.J.Iterator.remaining
-        g.J.Iterator.next_gives total g.met.I.Item.PartialOrd.laws g.met.I.Item.Ord.matches_partial_cmp g.met.I.Item.Eq.laws.refl (walk-difference total) c.requires.left c.requires.right c.requires.items _ _ c.in_ok-sides.ensures
+    g.J.Iterator.next_gives total g.met.I.Item.PartialOrd.laws g.met.I.Item.Ord.matches_partial_cmp g.met.I.Item.Eq.laws.refl (walk-difference total) c.requires.left c.requires.right c.requires.items _ _ c.in_ok-sides.ensures
