@@ -52,10 +52,13 @@ pub(crate) fn read_or_fill<K: Ord + Copy + Drop>(
     key: K,
     age: u32,
 ) -> Result<u32, Refused<(K, u32)>> {
-    if let Entry::Vacant(free) = ages.entry(key) {
-        free.insert(age)?;
+    match ages.entry(key) {
+        Entry::Vacant(free) => {
+            free.insert(age)?;
+            Ok(*ages.index(&key))
+        }
+        Entry::Occupied(taken) => Ok(*taken.get()),
     }
-    Ok(*ages.index(&key))
 }
 
 /// Whether a clone of the map is equal to it, which it is where clones of values are.

@@ -4,10 +4,16 @@ ghost use Rattle.std.specs.Ordering.{nat_cmp};
 ghost use Rattle.std.specs.Range.Bound.{bound_map};
 ghost use Rattle.sorted_vector_map.specs.Bounds.{AreInOrder};
 
+use crate::callers::{
+    clone_is_equal, put_and_read, read_or_default, read_or_fill, read_or_insert,
+    read_or_insert_with,
+};
 use crate::iter_mut_tests::even_keys;
 use crate::{NoMemory, SortedVectorMap};
 use std::alloc::Global;
 use std::collections::BTreeMap;
+use std::hash::{DefaultHasher, Hash, Hasher};
+use std::iter::ExactSizeIterator;
 use std::ops::Bound;
 use std::test::Fail;
 
@@ -34,56 +40,18 @@ fn keys_of(alloc: Global, ages: &SortedVectorMap<u32, u32>) -> Result<Vec<u32>, 
     Ok(keys)
 }
 
+fn hash_of<T: Hash>(value: &T) -> u64 {
+    let mut state = DefaultHasher::new();
+    value.hash(&mut state);
+    state.finish()
+}
+
 fn numbered(alloc: Global, low: u32, high: u32) -> Result<SortedVectorMap<u32, u32>, Fail> {
     let mut map = SortedVectorMap::new(alloc);
     for key in low..high {
         map.insert(key, 0)?;
     }
     Ok(map)
-}
-
-#[test]
-fn insert_answers_the_old_value(rt: HostRuntime) -> Result<(), Fail> {
-    let mut map = SortedVectorMap::with_capacity(rt.alloc(), 4)?;
-    for key in [2u32, 1, 4, 3] {
-        assert_eq!(rt; map.insert(key, 'a')?, None, "at {key}");
-    }
-    assert_eq!(rt; map.insert(1, 'b')?, Some('a'));
-    assert_eq!(rt; map.len(), 4);
-    for (index, key) in [(0usize, 1u32), (1, 2), (2, 3), (3, 4)] {
-        let found = map.get_key_value_at_index(index);
-        assert!(rt; found.is_some_and(|pair| *pair.0 == key), "at {index}");
-    }
-    assert!(rt; map.get_key_value_at_index(4).is_none());
-    assert_eq!(rt; map.get(&1).copied(), Some('b'));
-    Ok(())
-}
-
-#[test]
-fn entries_put_in_what_is_missing(rt: HostRuntime) -> Result<(), Fail> {
-    let mut map = SortedVectorMap::new(rt.alloc());
-    map.insert('a', 100u32)?;
-    map.insert('b', 200)?;
-    assert_eq!(rt; *map.entry('e').or_insert(501)?, 501);
-    assert_eq!(rt; *map.entry('f').or_default()?, 0);
-    assert_eq!(rt; *map.entry('g').or_insert_with(|| 7)?, 7);
-    if let crate::Entry::Vacant(vacant) = map.entry('h') {
-        assert_eq!(rt; *vacant.insert(9)?, 9);
-    }
-    assert_eq!(rt; *map.entry('a').or_insert(1)?, 100);
-    *map.entry('a').and_modify(|value| *value = 3).or_insert(1)? = 4;
-    for (key, value) in [
-        ('a', 4),
-        ('b', 200),
-        ('e', 501),
-        ('f', 0),
-        ('g', 7),
-        ('h', 9),
-    ] {
-        assert_eq!(rt; map.get(&key).copied(), Some(value), "at {key}");
-    }
-    assert_eq!(rt; map.len(), 6);
-    Ok(())
 }
 
 #[test]
@@ -137,38 +105,6 @@ fn labelled_seven(alloc: Global) -> Result<SortedVectorMap<Tag, u32>, Fail> {
 }
 
 #[test]
-fn insert_keeps_the_stored_key(rt: HostRuntime) -> Result<(), Fail> {
-    let mut map = labelled_seven(rt.alloc())?;
-    assert_eq!(rt; map.insert(labelled(7, 'y'), 2)?, Some(1));
-    assert!(rt; first_is(&map, 'x'));
-    assert_eq!(rt; map.len(), 1);
-    Ok(())
-}
-
-#[test]
-fn one_new_pair_keeps_the_stored_key(rt: HostRuntime) -> Result<(), Fail> {
-    let mut map = labelled_seven(rt.alloc())?;
-    let mut new = Vec::new(rt.alloc());
-    new.push((labelled(7, 'y'), 2u32))?;
-    map.extend_with_vec(new)?;
-    assert!(rt; first_is(&map, 'x'));
-    assert_eq!(rt; map.len(), 1);
-    Ok(())
-}
-
-#[test]
-fn two_new_pairs_replace_the_stored_key(rt: HostRuntime) -> Result<(), Fail> {
-    let mut map = labelled_seven(rt.alloc())?;
-    let mut new = Vec::new(rt.alloc());
-    new.push((labelled(7, 'y'), 2u32))?;
-    new.push((labelled(8, 'z'), 3))?;
-    map.extend_with_vec(new)?;
-    assert!(rt; first_is(&map, 'y'));
-    assert_eq!(rt; map.len(), 2);
-    Ok(())
-}
-
-#[test]
 fn appending_replaces_the_stored_key(rt: HostRuntime) -> Result<(), Fail> {
     let mut map = labelled_seven(rt.alloc())?;
     let mut other = SortedVectorMap::new(rt.alloc());
@@ -176,22 +112,6 @@ fn appending_replaces_the_stored_key(rt: HostRuntime) -> Result<(), Fail> {
     map.append(&mut other)?;
     assert!(rt; first_is(&map, 'y'));
     assert!(rt; other.is_empty());
-    Ok(())
-}
-
-#[test]
-fn each_way_of_making_makes_the_same(rt: HostRuntime) -> Result<(), Fail> {
-    let made = SortedVectorMap::try_from_iter(rt.alloc(), [(2u32, 20u32), (1, 10)])?;
-    let mut tree = BTreeMap::new(rt.alloc());
-    tree.insert(1, 10)?;
-    tree.insert(2, 20)?;
-    let mut copied = SortedVectorMap::new(rt.alloc());
-    copied.extend_copied(&tree)?;
-    assert!(rt; copied == made);
-    let moved = SortedVectorMap::try_from_btree_map(rt.alloc(), tree)?;
-    assert!(rt; moved == made);
-    assert!(rt; made.try_clone(rt.alloc())? == made);
-    assert_eq!(rt; made.into_inner().as_slice(), [(1, 10), (2, 20)].as_slice());
     Ok(())
 }
 
@@ -219,66 +139,10 @@ fn a_range_holds_its_included_ends(rt: HostRuntime) -> Result<(), Fail> {
 }
 
 #[test]
-fn a_range_ends_where_the_keys_do(rt: HostRuntime) -> Result<(), Fail> {
-    let map = even_keys(rt.alloc())?;
-    let keys = keys_within(rt.alloc(), &map, Bound::Excluded(&6), Bound::Included(&60))?;
-    assert_eq!(rt;
-        keys.as_slice(),
-        [
-            8, 10, 12, 14, 16, 18, 20, 22, 24, 26, 28, 30, 32, 34, 36, 38
-        ]
-        .as_slice()
-    );
-    Ok(())
-}
-
-#[test]
 fn a_range_without_a_low_bound_begins_at_the_first_key(rt: HostRuntime) -> Result<(), Fail> {
     let map = even_keys(rt.alloc())?;
     let keys = keys_within(rt.alloc(), &map, Bound::Unbounded, Bound::Excluded(&7))?;
     assert_eq!(rt; keys.as_slice(), [0, 2, 4, 6].as_slice());
-    Ok(())
-}
-
-#[test]
-fn iterators_meet_in_the_middle(rt: HostRuntime) -> Result<(), Fail> {
-    let map = numbered(rt.alloc(), 1, 6)?;
-    let mut keys = map.keys();
-    assert_eq!(rt; keys.next().copied(), Some(1));
-    assert_eq!(rt; keys.next_back().copied(), Some(5));
-    assert_eq!(rt; keys.size_hint(), (3, Some(3)));
-    assert_eq!(rt; keys.next().copied(), Some(2));
-    assert_eq!(rt; keys.next_back().copied(), Some(4));
-    assert_eq!(rt; keys.next_back().copied(), Some(3));
-    assert_eq!(rt; keys.next(), None);
-    assert_eq!(rt; keys.next_back(), None);
-    let mut owned = map.into_keys();
-    assert_eq!(rt; owned.next(), Some(1));
-    assert_eq!(rt; owned.next_back(), Some(5));
-    assert_eq!(rt; owned.next(), Some(2));
-    assert_eq!(rt; owned.size_hint(), (2, Some(2)));
-    Ok(())
-}
-
-#[test]
-fn pairs_are_taken_out(rt: HostRuntime) -> Result<(), Fail> {
-    let mut map = numbered(rt.alloc(), 0, 8)?;
-    map.retain(|key, value| {
-        *value = *key;
-        key % 2 == 1
-    });
-    assert_eq!(rt;
-        keys_of(rt.alloc(), &map)?.as_slice(),
-        [1, 3, 5, 7].as_slice()
-    );
-    assert_eq!(rt; map.remove(&3), Some(3));
-    assert_eq!(rt; map.remove(&4), None);
-    assert_eq!(rt; map.pop_last(), Some((7, 7)));
-    let first = map.first_entry().map(|entry| entry.remove_entry());
-    assert_eq!(rt; first, Some((1, 1)));
-    assert_eq!(rt; map.last_key_value().map(|pair| *pair.0), Some(5));
-    map.clear();
-    assert!(rt; map.last_entry().is_none());
     Ok(())
 }
 
@@ -297,44 +161,195 @@ fn a_map_and_its_entries_are_shown(rt: HostRuntime) -> Result<(), Fail> {
 }
 
 #[test]
+fn insert_answers_the_old_value(rt: HostRuntime) -> Result<(), Fail> {
+    let mut map = SortedVectorMap::with_capacity(rt.alloc(), 4)?;
+    for key in [2u32, 1, 4, 3] {
+        assert_eq!(rt; map.insert(key, 'a')?, None, "at {key}");
+    }
+    assert_eq!(rt; map.insert(1, 'b')?, Some('a'));
+    assert_eq!(rt; map.len(), 4);
+    for (index, key) in [(0usize, 1u32), (1, 2), (2, 3), (3, 4)] {
+        let found = map.get_key_value_at_index(index);
+        assert!(rt; found.is_some_and(|pair| *pair.0 == key), "at {index}");
+    }
+    assert_eq!(rt; map.get(&1).copied(), Some('b'));
+    Ok(())
+}
+
+#[test]
+fn a_key_that_was_put_in_is_read(rt: HostRuntime) -> Result<(), Fail> {
+    let mut ages = SortedVectorMap::new(rt.alloc());
+    assert_eq!(rt; put_and_read(&mut ages, 'a', 100)?, 100);
+    assert_eq!(rt; read_or_insert(&mut ages, 'a', 1)?, 100);
+    assert_eq!(rt; read_or_insert_with(&mut ages, 'g', 7)?, 7);
+    assert_eq!(rt; read_or_default(&mut ages, 'f')?, 0);
+    assert_eq!(rt; read_or_fill(&mut ages, 'h', 9)?, 9);
+    assert_eq!(rt; ages.len(), 4);
+    Ok(())
+}
+
+#[test]
+fn default_is_called_where_the_entry_is_vacant(rt: HostRuntime) -> Result<(), Fail> {
+    let mut map = SortedVectorMap::new(rt.alloc());
+    let mut calls = 0u32;
+    for (key, total) in [('a', 1u32), ('a', 1), ('b', 2), ('b', 2), ('a', 2)] {
+        map.entry(key).or_insert_with(|| {
+            calls = calls.wrapping_add(1);
+            calls
+        })?;
+        assert_eq!(rt; calls, total, "at {key}");
+    }
+    assert_eq!(rt; map.get(&'b').copied(), Some(2));
+    Ok(())
+}
+
+#[test]
+fn a_change_is_called_where_the_entry_is_occupied(rt: HostRuntime) -> Result<(), Fail> {
+    let mut map = numbered(rt.alloc(), 1, 3)?;
+    let mut calls = 0u32;
+    for (key, total) in [(0u32, 0u32), (1, 1), (3, 1), (2, 2), (4, 2)] {
+        let entry = map.entry(key).and_modify(|value| {
+            calls = calls.wrapping_add(1);
+            *value = calls;
+        });
+        assert_eq!(rt; *entry.key(), key);
+        assert_eq!(rt; calls, total, "at {key}");
+    }
+    assert_eq!(rt; map.get(&2).copied(), Some(2));
+    Ok(())
+}
+
+#[test]
+fn a_few_new_pairs_keep_or_replace_the_stored_key(rt: HostRuntime) -> Result<(), Fail> {
+    let mut inserted = labelled_seven(rt.alloc())?;
+    assert_eq!(rt; inserted.insert(labelled(7, 'y'), 2)?, Some(1));
+    assert!(rt; first_is(&inserted, 'x'));
+    for (last, label) in [(7u32, 'x'), (8, 'y')] {
+        let mut map = labelled_seven(rt.alloc())?;
+        let mut new = Vec::new(rt.alloc());
+        for number in 7..=last {
+            new.push((labelled(number, 'y'), 2u32))?;
+        }
+        map.extend_with_vec(new)?;
+        assert!(rt; first_is(&map, label), "up to {last}");
+    }
+    Ok(())
+}
+
+#[test]
+fn a_tree_a_list_and_a_clone_make_one_map(rt: HostRuntime) -> Result<(), Fail> {
+    let made = SortedVectorMap::try_from_iter(rt.alloc(), [(2u32, 20u32), (1, 10)])?;
+    let mut tree = BTreeMap::new(rt.alloc());
+    tree.insert(1, 10)?;
+    tree.insert(2, 20)?;
+    let mut copied = SortedVectorMap::new(rt.alloc());
+    copied.extend_copied(&tree)?;
+    assert!(rt; copied == made);
+    let moved = SortedVectorMap::try_from_btree_map(rt.alloc(), tree)?;
+    assert!(rt; clone_is_equal(rt.alloc(), &moved)?);
+    assert_eq!(rt;
+        moved.into_inner().as_slice(),
+        [(1, 10), (2, 20)].as_slice()
+    );
+    Ok(())
+}
+
+#[test]
+fn maps_are_ordered_and_hashed_as_their_lists(rt: HostRuntime) -> Result<(), Fail> {
+    let short = numbered(rt.alloc(), 1, 3)?;
+    let long = numbered(rt.alloc(), 1, 4)?;
+    assert!(rt; short.cmp(&long).is_lt());
+    let again = numbered(rt.alloc(), 1, 3)?;
+    assert!(rt; short.cmp(&again).is_eq());
+    assert_eq!(rt; hash_of(&short), hash_of(&again));
+    Ok(())
+}
+
+#[test]
+fn pairs_come_from_both_ends(rt: HostRuntime) -> Result<(), Fail> {
+    let map = numbered(rt.alloc(), 1, 6)?;
+    let mut pairs = map.iter();
+    assert!(rt; pairs.next().is_some_and(|pair| *pair.0 == 1));
+    assert!(rt; pairs.next_back().is_some_and(|pair| *pair.0 == 5));
+    assert_eq!(rt; pairs.len(), 3);
+    let mut key = 0;
+    for (next, value) in map {
+        key = next;
+        assert_eq!(rt; value, 0, "at {next}");
+    }
+    assert_eq!(rt; key, 5);
+    Ok(())
+}
+
+#[test]
+fn keys_meet_in_the_middle(rt: HostRuntime) -> Result<(), Fail> {
+    let map = numbered(rt.alloc(), 1, 4)?;
+    let mut keys = map.keys();
+    assert_eq!(rt; keys.next_back().copied(), Some(3));
+    assert_eq!(rt; keys.size_hint(), (2, Some(2)));
+    let mut owned = map.into_keys();
+    assert_eq!(rt; owned.next(), Some(1));
+    assert_eq!(rt; owned.next_back(), Some(3));
+    assert_eq!(rt; owned.size_hint(), (1, Some(1)));
+    Ok(())
+}
+
+#[test]
+fn pairs_are_taken_out(rt: HostRuntime) -> Result<(), Fail> {
+    let mut map = numbered(rt.alloc(), 0, 10)?;
+    map.retain(|key, value| {
+        *value = *key;
+        key % 2 == 1
+    });
+    assert_eq!(rt; map.remove(&3), Some(3));
+    assert_eq!(rt; map.pop_last(), Some((9, 9)));
+    let first = map.first_entry().map(|entry| entry.remove_entry());
+    assert_eq!(rt; first, Some((1, 1)));
+    let last = map.last_entry().map(|entry| entry.remove());
+    assert_eq!(rt; last, Some(7));
+    assert_eq!(rt; map.last_key_value().map(|pair| *pair.0), Some(5));
+    Ok(())
+}
+
+#[test]
 fn values_are_looked_up_and_written(rt: HostRuntime) -> Result<(), Fail> {
     let mut map = SortedVectorMap::try_from_iter(rt.alloc(), [(2u32, 20u32), (1, 10)])?;
-    assert!(rt; map.contains_key(&1));
-    assert!(rt; !map.contains_key(&3));
     if let Some(value) = map.get_mut(&1) {
         *value = 11;
     }
-    assert_eq!(rt; map.get(&1).copied(), Some(11));
-    assert!(rt;
-        map.get_key_value(&2)
-            .is_some_and(|pair| *pair.0 == 2 && *pair.1 == 20)
-    );
-    assert!(rt; map.get_mut(&3).is_none());
-    let mut values = map.into_values();
-    assert_eq!(rt; values.next(), Some(11));
-    assert_eq!(rt; values.next_back(), Some(20));
-    assert_eq!(rt; values.next(), None);
+    if map.contains_key(&2) {
+        *map.index_mut(&2) = 21;
+    }
+    let mut values = map.values();
+    assert_eq!(rt; values.next().copied(), Some(11));
+    assert_eq!(rt; values.next_back().copied(), Some(21));
+    let mut owned = map.into_values();
+    assert_eq!(rt; owned.next_back(), Some(21));
     Ok(())
 }
 
 #[test]
 fn an_occupied_entry_is_read_and_replaced(rt: HostRuntime) -> Result<(), Fail> {
-    let mut map = SortedVectorMap::try_from_iter(rt.alloc(), [(2u32, 20u32), (1, 10)])?;
+    let mut map = numbered(rt.alloc(), 1, 2)?;
     if let crate::Entry::Occupied(mut taken) = map.entry(1) {
         assert_eq!(rt; *taken.key(), 1);
-        assert_eq!(rt; taken.insert(11), 10);
+        assert_eq!(rt; taken.insert(11), 0);
         *taken.get_mut() = 12;
         assert_eq!(rt; *taken.get(), 12);
         *taken.into_mut() = 13;
     }
-    assert_eq!(rt; map.get(&1).copied(), Some(13));
-    if let crate::Entry::Occupied(taken) = map.entry(2) {
-        assert_eq!(rt; taken.remove(), 20);
-    }
+    assert_eq!(rt; map.get_key_value(&1).map(|pair| *pair.1), Some(13));
+    Ok(())
+}
+
+#[test]
+fn a_vacant_entry_gives_its_key_back(rt: HostRuntime) -> Result<(), Fail> {
+    let mut map = numbered(rt.alloc(), 1, 2)?;
     if let crate::Entry::Vacant(free) = map.entry(2) {
         assert_eq!(rt; *free.key(), 2);
         assert_eq!(rt; free.into_key(), 2);
     }
-    assert_eq!(rt; map.len(), 1);
+    map.clear();
+    assert!(rt; map.is_empty());
     Ok(())
 }

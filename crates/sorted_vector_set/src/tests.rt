@@ -3,6 +3,7 @@ ghost use Rattle.std.specs.Prelude.{◌≡◌, IfOk};
 
 use crate::{NoMemory, SortedVectorSet};
 use std::alloc::Global;
+use std::hash::{DefaultHasher, Hash, Hasher};
 use std::test::Fail;
 
 // Tags are equal where their numbers are.
@@ -61,18 +62,29 @@ fn replaced_item_gives_way(rt: HostRuntime) -> Result<(), Fail> {
     Ok(())
 }
 
+fn hash_of<T: Hash>(value: &T) -> u64 {
+    let mut state = DefaultHasher::new();
+    value.hash(&mut state);
+    state.finish()
+}
+
+fn set_of(alloc: Global, items: &[u8]) -> Result<SortedVectorSet<u8>, Fail> {
+    let mut set = SortedVectorSet::new(alloc);
+    for item in items {
+        set.insert(*item)?;
+    }
+    Ok(set)
+}
+
 #[test]
-fn sets_compare_as_their_lists(rt: HostRuntime) -> Result<(), Fail> {
-    let mut low = SortedVectorSet::new(rt.alloc());
-    let mut high = SortedVectorSet::with_capacity(rt.alloc(), 8)?;
-    for item in [3u8, 1] {
-        low.insert(item)?;
-    }
-    for item in [1u8, 3] {
-        high.insert(item)?;
-    }
+fn sets_compare_hash_and_are_shown_as_their_lists(rt: HostRuntime) -> Result<(), Fail> {
+    let low = set_of(rt.alloc(), &[3, 1])?;
+    let high = set_of(rt.alloc(), &[1, 3])?;
     assert!(rt; low == high);
-    high.replace(2)?;
-    assert!(rt; high < low);
+    assert_eq!(rt; hash_of(&low), hash_of(&high));
+    let longer = set_of(rt.alloc(), &[1, 3, 2])?;
+    assert!(rt; longer.cmp(&low).is_lt());
+    let shown = format!(in rt.alloc(); "{longer:?}")?;
+    assert_eq!(rt; shown.as_str(), "{1, 2, 3}");
     Ok(())
 }
