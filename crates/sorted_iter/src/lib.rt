@@ -22,7 +22,9 @@ pub use crate::intersection::Intersection;
 pub use crate::marks::{
     AssumeSortedByItem, AssumeSortedByItemExt, OneOrLess, SortedByItem, SortedIterator,
 };
-pub use crate::multiway::{InputHead, MultiwayUnion, multiway_union};
+#[doc(hidden)]
+pub use crate::multiway::InputHead;
+pub use crate::multiway::{MultiwayUnion, multiway_union};
 pub use crate::pairs::Pairs;
 #[doc(hidden)]
 pub use crate::sides::Sides;
