@@ -77,14 +77,21 @@ fn set_of(alloc: Global, items: &[u8]) -> Result<SortedVectorSet<u8>, Fail> {
 }
 
 #[test]
-fn sets_compare_hash_and_are_shown_as_their_lists(rt: HostRuntime) -> Result<(), Fail> {
+fn equal_lists_make_equal_sets(rt: HostRuntime) -> Result<(), Fail> {
     let low = set_of(rt.alloc(), &[3, 1])?;
     let high = set_of(rt.alloc(), &[1, 3])?;
     assert!(rt; low == high);
     assert_eq!(rt; hash_of(&low), hash_of(&high));
-    let longer = set_of(rt.alloc(), &[1, 3, 2])?;
-    assert!(rt; longer.cmp(&low).is_lt());
-    let shown = format!(in rt.alloc(); "{longer:?}")?;
+    Ok(())
+}
+
+#[test]
+fn a_set_is_ordered_and_shown_as_its_list(rt: HostRuntime) -> Result<(), Fail> {
+    let short = set_of(rt.alloc(), &[3, 1])?;
+    let long = set_of(rt.alloc(), &[1, 3, 2])?;
+    assert!(rt; long.cmp(&short).is_lt());
+    assert_eq!(rt; long.iter().next_back().copied(), Some(3));
+    let shown = format!(in rt.alloc(); "{long:?}")?;
     assert_eq!(rt; shown.as_str(), "{1, 2, 3}");
     Ok(())
 }
