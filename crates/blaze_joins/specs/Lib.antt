@@ -4,3 +4,5 @@ pub mod Keys
 pub mod PieceView
 pub mod Joins
 pub mod Laws
+pub mod SideView
+pub mod Cloned

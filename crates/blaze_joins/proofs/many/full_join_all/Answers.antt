@@ -1,0 +1,131 @@
+use Rattle.std.proofs.Common.{rules, of_calls, ◌≡◌, ◌<◌, refl, arith, sym, ◌∙◌}
+use Rattle.std.specs.Prelude.{pos, ◌+ℤ◌, ◌-ℤ◌, unsigned_abs}
+use Rattle.std.proofs.lemmas.Int.{ints}
+use Rattle.number_line.specs.Pieces.{holders_of_all_at, same_holders_of_all, in_any}
+use Rattle.number_line.proofs.JoinWalk.{joined_first, joined_past, joined_call, joined_all}
+use Rattle.range_map.specs.Valued.{pairs_in_numbers}
+use Rattle.range_map.proofs.GrowthLemmas.{end_below-raise}
+use Rattle.blaze_joins.specs.Joins.{CalledAtAny}
+use Rattle.blaze_joins.specs.SideView.{holders_in, ends_of}
+use Rattle.blaze_joins.proofs.SideLemmas.{ends_low, least_high, cut_sides, one_there, sides_long}
+use Rattle.blaze_joins.proofs.many.full_join_all.Goals as goal
+use Rattle.blaze_joins.proofs.many.full_join_all.Goals.{then-one_holds+in_ok-values+in_ok-push_value, else-one_holds}
+
+pub loop-sides-init : goal.loop-sides-init
+loop-sides-init g c =
+    let numbers = g.T.Element.numbers in
+    rw (c.min_value-start.ensures.number, c.new-pairs.ensures.items) record {
+      callable = search (rules, of_calls);
+      is_value = c.min_value-start.ensures.is_value;
+      map = record { are_ranges = tt; canonical = tt };
+      below = tt;
+      sides = c.in_ok-sides.ensures;
+      joined = joined_first (CalledAtAny g.V.Clone.is_clone g.F.FnMut) same_holders_of_all in_any (holders_of_all_at c.args.maps.now) g.X.PartialEq.eq numbers.least numbers.greatest c.args.f;
+    }
+
+pub values_of_each-requires : goal.values_of_each-requires
+values_of_each-requires g c =
+    rw c.as_slice-then-one_holds.ensures.value (sides_long g.T.Element.numbers g.V.PartialEq.eq _ _ _ c.loop-sides.invariant.sides)
+
+pub new-requires : goal.new-requires
+new-requires g c =
+    let numbers = g.T.Element.numbers in
+    let value = c.loop-sides.invariant.is_value in
+    let low = ends_low numbers g.V.PartialEq.eq _ _ _ (g.met.T.Element.numbered.high _ value) c.loop-sides.invariant.sides in
+    let least = rw c.as_slice.ensures.value at c.first_end-end.ensures.least in
+    rw least low
+
+pub returns-in_default-clause-joined : goal.returns-in_default-clause-joined
+returns-in_default-clause-joined g c =
+    let numbers = g.T.Element.numbers in
+    let eq = g.X.PartialEq.eq in
+    let step = CalledAtAny g.V.Clone.is_clone g.F.FnMut in
+    let maps = c.args.maps.now in
+    let inv = c.loop-sides.invariant in
+    let sides = c.loop-sides.sides.items in
+    let start = numbers.number c.loop-sides.start in
+    let end = numbers.number c.first_end-end.result in
+    let least = rw c.as_slice.ensures.value at c.first_end-end.ensures.least in
+    let there = one_there numbers g.V.PartialEq.eq start maps sides inv.sides in
+    let further = cut_sides numbers g.V.PartialEq.eq start in_any end (end +ℤ pos 1) maps sides (g.met.T.Element.numbered.low _ inv.is_value) (g.met.T.Element.numbered.high _ inv.is_value) inv.sides least refl in
+    let last : end ≡ numbers.greatest = c.in_default.ensures.at_end.0 refl in
+    joined_all step same_holders_of_all in_any (holders_of_all_at maps) eq numbers.least numbers.greatest (end +ℤ pos 1) c.args.f c.if-one_holds.f (pairs_in_numbers numbers c.if-one_holds.pairs.items) (omega (arith, ints))
+    (elim c.if-one_holds.branch [
+      | then-one_holds+in_ok-values+in_ok-push_value w ↦ rw (w.f-is, w.pairs-is)
+          (joined_call step same_holders_of_all in_any (holders_of_all_at maps) eq numbers.least numbers.greatest start (end +ℤ pos 1) ((start, end), holders_in maps sides) further _ _ _ _ _ _
+          (sym there ∙ sym (rw c.as_slice-in-loop-sides.ensures.value at w.if-one_holds.ensures))
+          (record {
+            values = w.as_slice-then-one_holds-2.result;
+            clones = rw w.as_slice-then-one_holds-2.ensures.value (rw w.as_slice-then-one_holds.ensures.value at w.in_ok-values.ensures);
+            called = w.f-answer.ensures;
+          })
+          (rw w.new.ensures.value at w.in_ok-push_value.ensures.put) inv.joined)
+      | else-one_holds w ↦ rw (w.f-is, w.pairs-is)
+          (joined_past step same_holders_of_all in_any (holders_of_all_at maps) eq numbers.least numbers.greatest start (end +ℤ pos 1) ((start, end), holders_in maps sides) further _ _ _
+          (sym there ∙ sym (rw c.as_slice-in-loop-sides.ensures.value at w.if-one_holds.ensures)) inv.joined)
+    ])
+
+pub sides_behind-requires-clause-sides : goal.sides_behind-requires-clause-sides
+sides_behind-requires-clause-sides g c =
+    let numbers = g.T.Element.numbers in
+    let value = c.loop-sides.invariant.is_value in
+    let low = ends_low numbers g.V.PartialEq.eq _ _ _ (g.met.T.Element.numbered.high _ value) c.loop-sides.invariant.sides in
+    let least = rw c.as_slice.ensures.value at c.first_end-end.ensures.least in
+    (numbers.number c.loop-sides.start, rw least low, rw c.as_slice-in-loop-sides-2.ensures.value c.loop-sides.invariant.sides)
+
+pub loop-sides-smaller : goal.loop-sides-smaller
+loop-sides-smaller g c =
+    let numbers = g.T.Element.numbers in
+    let value = c.loop-sides.invariant.is_value in
+    let low = ends_low numbers g.V.PartialEq.eq _ _ _ (g.met.T.Element.numbered.high _ value) c.loop-sides.invariant.sides in
+    let least = rw c.as_slice.ensures.value at c.first_end-end.ensures.least in
+    let high = g.met.T.Element.numbered.high _ c.in-Some.ensures.next.0 in
+    let step = c.in-Some.ensures.next.1 in
+    let smaller : unsigned_abs (numbers.greatest -ℤ numbers.number c.in-Some.next) < unsigned_abs (numbers.greatest -ℤ numbers.number c.loop-sides.start) = omega (arith, ints, low, least, step) in
+    smaller
+
+pub loop-sides-preserved : goal.loop-sides-preserved
+loop-sides-preserved g c =
+    let numbers = g.T.Element.numbers in
+    let eq = g.X.PartialEq.eq in
+    let step = CalledAtAny g.V.Clone.is_clone g.F.FnMut in
+    let maps = c.args.maps.now in
+    let inv = c.loop-sides.invariant in
+    let sides = c.loop-sides.sides.items in
+    let start = numbers.number c.loop-sides.start in
+    let end = numbers.number c.first_end-end.result in
+    let least = rw c.as_slice.ensures.value at c.first_end-end.ensures.least in
+    let there = one_there numbers g.V.PartialEq.eq start maps sides inv.sides in
+    let further = cut_sides numbers g.V.PartialEq.eq start in_any end (end +ℤ pos 1) maps sides (g.met.T.Element.numbered.low _ inv.is_value) (g.met.T.Element.numbered.high _ inv.is_value) inv.sides least refl in
+    let next : numbers.number c.in-Some.next ≡ end +ℤ pos 1 = c.in-Some.ensures.next.1 in
+    let low = ends_low numbers g.V.PartialEq.eq _ _ _ (g.met.T.Element.numbered.high _ inv.is_value) inv.sides in
+    record {
+      callable = elim c.if-one_holds.branch [
+        | then-one_holds+in_ok-values+in_ok-push_value w ↦ rw w.f-is (search (rules, of_calls))
+        | else-one_holds w ↦ rw w.f-is inv.callable
+      ];
+      is_value = c.in-Some.ensures.next.0;
+      map = elim c.if-one_holds.branch [
+        | then-one_holds+in_ok-values+in_ok-push_value w ↦ rw w.pairs-is w.in_ok-push_value.ensures.map
+        | else-one_holds w ↦ rw w.pairs-is inv.map
+      ];
+      below = rw next (elim c.if-one_holds.branch [
+        | then-one_holds+in_ok-values+in_ok-push_value w ↦ rw w.pairs-is (rw w.new.ensures.value at w.in_ok-push_value.ensures.labelled.behind)
+        | else-one_holds w ↦ rw w.pairs-is (end_below-raise start (end +ℤ pos 1) _ (omega (arith, ints, low, least)) inv.below)
+      ]);
+      sides = c.in_ok-sides-2.ensures;
+      joined = rw next (elim c.if-one_holds.branch [
+      | then-one_holds+in_ok-values+in_ok-push_value w ↦ rw (w.f-is, w.pairs-is)
+          (joined_call step same_holders_of_all in_any (holders_of_all_at maps) eq numbers.least numbers.greatest start (end +ℤ pos 1) ((start, end), holders_in maps sides) further _ _ _ _ _ _
+          (sym there ∙ sym (rw c.as_slice-in-loop-sides.ensures.value at w.if-one_holds.ensures))
+          (record {
+            values = w.as_slice-then-one_holds-2.result;
+            clones = rw w.as_slice-then-one_holds-2.ensures.value (rw w.as_slice-then-one_holds.ensures.value at w.in_ok-values.ensures);
+            called = w.f-answer.ensures;
+          })
+          (rw w.new.ensures.value at w.in_ok-push_value.ensures.put) inv.joined)
+      | else-one_holds w ↦ rw (w.f-is, w.pairs-is)
+          (joined_past step same_holders_of_all in_any (holders_of_all_at maps) eq numbers.least numbers.greatest start (end +ℤ pos 1) ((start, end), holders_in maps sides) further _ _ _
+          (sym there ∙ sym (rw c.as_slice-in-loop-sides.ensures.value at w.if-one_holds.ensures)) inv.joined)
+    ]);
+    }

@@ -1,0 +1,10 @@
+use Rattle.std.proofs.Common.{drop}
+use Rattle.number_line.specs.Pieces.{values_of_all}
+use Rattle.blaze_joins.specs.Filled.{IsOptionClone}
+use Rattle.blaze_joins.specs.SideView.{holders_in}
+use Rattle.blaze_joins.proofs.ZippedLemmas.{IsZipped}
+use Rattle.blaze_joins.proofs.many.values_of_each.Given as goal
+
+abbrev pub invariant-loop-i : goal.invariant-loop-i
+invariant-loop-i g l = IsZipped (IsOptionClone g.V.Clone.is_clone) (values_of_all (holders_in (drop l.i l.maps) (drop l.i l.sides)))
+    (values_of_all (holders_in l.maps l.sides)) l.values.items

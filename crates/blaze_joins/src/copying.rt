@@ -1,0 +1,86 @@
+//! Maps with the same keys as another one, and maps in which every key has one value.
+ghost use Rattle.std.specs.Prelude.{◌≡◌, ℤ, ◌∷◌, [], IfOk, is_some, true};
+ghost use Rattle.number_line.specs.Pieces.{IsJoined};
+ghost use Rattle.number_line.specs.Valued.{value_at, IsCanonicalMap, same_list};
+ghost use Rattle.range_map.specs.Valued.{pairs_in_numbers, IsMap, AreValuedRanges};
+ghost use Rattle.blaze_joins.specs.Cloned.{ArePairClones};
+ghost use Rattle.blaze_joins.specs.Joins.{CalledAtValue};
+
+use crate::map::RangeMapBlaze;
+use element_core::{Element, NoMemory};
+use range_map::Range;
+use range_map::sweep::push_value_reserved;
+use std::alloc::Global;
+
+/// The same ranges with clones of the values, in their order.
+fn clones_of_pairs<T: Element, V: Eq + Clone + Drop>(
+    alloc: Global,
+    pairs: &[(Range<T>, V)],
+) -> Result<Vec<(Range<T>, V)>, NoMemory>
+    ensures are_ranges { IfOk result (λ copy. AreValuedRanges T.numbers copy.items) }
+    ensures clones {
+        IfOk result (λ copy. ArePairClones V.is_clone (pairs_in_numbers T.numbers pairs.now)
+            (pairs_in_numbers T.numbers copy.items))
+    }
+{
+    let mut copy = Vec::with_capacity(alloc, pairs.len())?;
+    for pair in pairs {
+        // This tells that the range is one of the type.
+        pair.0.start();
+        copy.push((pair.0, pair.1.clone()?))?;
+    }
+    Ok(copy)
+}
+
+impl<T: Element, V: Eq> RangeMapBlaze<T, V> {
+    /// The map in which every key has `value`. Takes O(1) time.
+    pub fn universe_with(alloc: Global, value: V) -> Result<Self, NoMemory>
+    where
+        V: Drop,
+        ensures { IfOk result (λ map. map ≡ ((T.numbers.least, T.numbers.greatest), value) ∷ []) }
+    {
+        let mut pairs = Vec::with_capacity(alloc, 1)?;
+        push_value_reserved(&mut pairs, Range::full(), value);
+        Ok(RangeMapBlaze { pairs })
+    }
+
+    /// The map of what `f` answers, called once for each range, in order, with its value. The keys are the same. Of
+    /// touching ranges with equal answers, which become one, the first answer stays. After `NoMemory` the function was
+    /// not called. Takes O(n) time for n ranges, beside the calls.
+    pub fn transform_values<X: Eq + Drop, F: FnMut(&V) -> X + Drop>(
+        &self,
+        alloc: Global,
+        mut f: F,
+    ) -> Result<RangeMapBlaze<T, X>, NoMemory>
+        requires { F.IsAlwaysCallable f }
+        ensures canonical {
+            IfOk result (IsCanonicalMap X.eq T.numbers.least T.numbers.greatest)
+        }
+        ensures joined { IfOk result (IsJoined (CalledAtValue F.FnMut) X.eq f self.now) }
+        ensures keys {
+            IfOk result (λ map. (x : ℤ) → is_some (value_at map x) ≡ is_some (value_at self.now x))
+        }
+    {
+        let mut pairs = Vec::with_capacity(alloc, self.pairs.len())?;
+        for pair in &self.pairs {
+            let answer = f(&pair.1);
+            push_value_reserved(&mut pairs, pair.0, answer);
+        }
+        Ok(RangeMapBlaze { pairs })
+    }
+
+    /// A map equal to this one, with clones of its values. Takes O(n) time for n ranges, beside the clones.
+    pub fn try_clone(&self, alloc: Global) -> Result<Self, NoMemory>
+    where
+        V: Clone + Drop,
+        requires { (a b : V) → V.is_clone a b → V.eq b a ≡ true }
+        ensures canonical {
+            IfOk result (IsCanonicalMap V.eq T.numbers.least T.numbers.greatest)
+        }
+        ensures clones { IfOk result (ArePairClones V.is_clone self.now) }
+        ensures equal { IfOk result (λ copy. same_list V.eq copy self.now ≡ true) }
+    {
+        let pairs = clones_of_pairs(alloc, self.pairs.as_slice())?;
+        Ok(RangeMapBlaze { pairs })
+    }
+}
