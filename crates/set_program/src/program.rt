@@ -22,8 +22,8 @@ use std::alloc::Global;
 
 /// Without words it reads a text from the source, and writes its answer to the sink, or the line of
 /// its first fault. With the words `sample` and a decimal from 1 to 1000 it leaves the source
-/// alone, and writes the counts of the answer to the sample text of so many lines, as `lines 4
-/// ranges 6 rows 8 bytes 223`.
+/// alone, and writes the counts of the answer to the sample text of so many lines, as
+/// `lines 4 ranges 6 rows 8 bytes 223`.
 ///
 /// It judges the words first: any others are `Usage`, with no device called. Then it reads to the
 /// end of the input, or to the 65,537th byte, which is `TooLong` at once; then it evaluates the
