@@ -7,8 +7,8 @@ try_clone-requires-clause-left c = clones-of_listed _ _ (λ _ _ k. k) (λ _ _ k.
 pub try_clone-requires-clause-right : goal.try_clone-requires-clause-right
 try_clone-requires-clause-right c = clones-of_listed _ _ (λ _ _ k. k) (λ _ _ k. k)
 
-pub try_clone-2-requires-clause-left : goal.try_clone-2-requires-clause-left
-try_clone-2-requires-clause-left c = clones-of_listed _ _ (λ _ _ k. k) (λ _ _ k. k)
+pub try_clone-requires-2-clause-left : goal.try_clone-requires-2-clause-left
+try_clone-requires-2-clause-left c = clones-of_listed _ _ (λ _ _ k. k) (λ _ _ k. k)
 
-pub try_clone-2-requires-clause-right : goal.try_clone-2-requires-clause-right
-try_clone-2-requires-clause-right c = clones-of_listed _ _ (λ _ _ k. k) (λ _ _ k. k)
+pub try_clone-requires-2-clause-right : goal.try_clone-requires-2-clause-right
+try_clone-requires-2-clause-right c = clones-of_listed _ _ (λ _ _ k. k) (λ _ _ k. k)
