@@ -11,7 +11,9 @@ fn stops_at_both_ends<T: Element>(rt: &impl Abort, steps: usize) {
     assert!(rt; least.predecessor().is_none() && greatest.successor().is_none());
     assert!(rt; compare(least, greatest) == Ordering::Less);
     assert!(rt; is_below(least, greatest) && !is_below(greatest, least) && !is_below(least, least));
-    assert!(rt; is_at_most(least, greatest) && !is_at_most(greatest, least) && is_at_most(least, least));
+    assert!(rt;
+        is_at_most(least, greatest) && !is_at_most(greatest, least) && is_at_most(least, least)
+    );
     match (least.successor(), greatest.predecessor()) {
         (Some(second), Some(last_but_one)) => {
             assert!(rt; is_below(least, second) && is_below(last_but_one, greatest));
