@@ -6,8 +6,8 @@ use Rattle.number_line.proofs.JoinWalk.{joined_first, joined_past, joined_call, 
 use Rattle.range_map.specs.Valued.{pairs_in_numbers}
 use Rattle.range_map.proofs.GrowthLemmas.{end_below-raise}
 use Rattle.blaze_joins.specs.Joins.{CalledAtAny}
-use Rattle.blaze_joins.specs.SideView.{holders_in, ends_of}
-use Rattle.blaze_joins.proofs.SideLemmas.{ends_low, least_high, cut_sides, one_there, sides_long}
+use Rattle.blaze_joins.specs.SideView.{holders_in}
+use Rattle.blaze_joins.proofs.SideLemmas.{ends_low, cut_sides, one_there, sides_long}
 use Rattle.blaze_joins.proofs.many.full_join_all.Goals as goal
 use Rattle.blaze_joins.proofs.many.full_join_all.Goals.{then-one_holds+in_ok-values+in_ok-push_value, else-one_holds}
 
