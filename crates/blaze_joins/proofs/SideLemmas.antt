@@ -1,8 +1,8 @@
 -- The sides of a walk over several maps: where the first of them ends, and the piece that they make.
-use Rattle.std.proofs.Common.{◌≡◌, ℕ, List, [], ◌∷◌, map, refl, ap, arith, sym, ◌∙◌, length}
-use Rattle.std.specs.Prelude.{ℤ, pos, ◌+ℤ◌, ◌≤ℤ◌, ◌<ℤ◌, Bool, true, false, ◌&&◌, ◌||◌, Option, Some, None, is_some}
+use Rattle.std.proofs.Common.{◌≡◌, List, [], ◌∷◌, map, refl, ap, arith, sym, ◌∙◌, length}
+use Rattle.std.specs.Prelude.{ℤ, pos, ◌+ℤ◌, ◌≤ℤ◌, Bool, true, ◌&&◌, ◌||◌, Option, Some, None, is_some}
 use Rattle.std.specs.Int.{int_min}
-use Rattle.std.specs.List.{AllZip, list_any, list_all}
+use Rattle.std.specs.List.{list_any, list_all}
 use Rattle.std.proofs.lemmas.Int.{ints}
 use Rattle.element_core.specs.Numbering.{Numbering}
 use Rattle.number_line.specs.Pieces.{HoldersOfAll, holders_of_all_at, same_holders_of_all, value_in, in_any, in_all}

@@ -18,10 +18,8 @@ fn clones_of_pairs<T: Element, V: Eq + Clone + Drop>(
     pairs: &[(Range<T>, V)],
 ) -> Result<Vec<(Range<T>, V)>, NoMemory>
     ensures are_ranges { IfOk result (λ copy. AreValuedRanges T.numbers copy.items) }
-    ensures clones {
-        IfOk result (λ copy. ArePairClones V.is_clone (pairs_in_numbers T.numbers pairs.now)
-            (pairs_in_numbers T.numbers copy.items))
-    }
+    ensures clones { IfOk result (λ copy. ArePairClones V.is_clone (pairs_in_numbers T.numbers pairs.now)
+        (pairs_in_numbers T.numbers copy.items)) }
 {
     let mut copy = Vec::with_capacity(alloc, pairs.len())?;
     for pair in pairs {
@@ -53,13 +51,9 @@ impl<T: Element, V: Eq> RangeMapBlaze<T, V> {
         mut f: F,
     ) -> Result<RangeMapBlaze<T, X>, NoMemory>
         requires { F.IsAlwaysCallable f }
-        ensures canonical {
-            IfOk result (IsCanonicalMap X.eq T.numbers.least T.numbers.greatest)
-        }
+        ensures canonical { IfOk result (IsCanonicalMap X.eq T.numbers.least T.numbers.greatest) }
         ensures joined { IfOk result (IsJoined (CalledAtValue F.FnMut) X.eq f self.now) }
-        ensures keys {
-            IfOk result (λ map. (x : ℤ) → is_some (value_at map x) ≡ is_some (value_at self.now x))
-        }
+        ensures keys { IfOk result (λ map. (x : ℤ) → is_some (value_at map x) ≡ is_some (value_at self.now x)) }
     {
         let mut pairs = Vec::with_capacity(alloc, self.pairs.len())?;
         for pair in &self.pairs {
@@ -74,9 +68,7 @@ impl<T: Element, V: Eq> RangeMapBlaze<T, V> {
     where
         V: Clone + Drop,
         requires { (a b : V) → V.is_clone a b → V.eq b a ≡ true }
-        ensures canonical {
-            IfOk result (IsCanonicalMap V.eq T.numbers.least T.numbers.greatest)
-        }
+        ensures canonical { IfOk result (IsCanonicalMap V.eq T.numbers.least T.numbers.greatest) }
         ensures clones { IfOk result (ArePairClones V.is_clone self.now) }
         ensures equal { IfOk result (λ copy. same_list V.eq copy self.now ≡ true) }
     {

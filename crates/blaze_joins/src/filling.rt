@@ -24,9 +24,12 @@ fn push_gap<T: Element, V: Eq + Clone + Drop>(
     requires end_below { EndBelow (T.numbers.number start) (pairs_in_numbers T.numbers filled.old.items) }
     requires no_later { T.numbers.number start ≤ℤ T.numbers.number range.now.0 }
     ensures map { OnOk result (IsMap T.numbers (option_eq V.eq) filled.new.items) }
-    ensures labelled { OnOk result (IsLabelled (option_eq V.eq) (pairs_in_numbers T.numbers filled.old.items) (T.numbers.number start, T.numbers.number range.now.0 -ℤ pos 1) (Some None) (pairs_in_numbers T.numbers filled.new.items)) }
+    ensures labelled { OnOk result (IsLabelled (option_eq V.eq) (pairs_in_numbers T.numbers filled.old.items)
+        (T.numbers.number start, T.numbers.number range.now.0 -ℤ pos 1) (Some None)
+        (pairs_in_numbers T.numbers filled.new.items)) }
     ensures first_stays { OnOk result ((due : ℤ → Option (Option V))
-        → (T.numbers.number start <ℤ T.numbers.number range.now.0 → due (T.numbers.number start) ≡ Some None)
+        → (T.numbers.number start <ℤ T.numbers.number range.now.0
+        → due (T.numbers.number start) ≡ Some None)
         → FirstStays (IsOptionClone V.is_clone) due (pairs_in_numbers T.numbers filled.old.items)
         → FirstStays (IsOptionClone V.is_clone) due (pairs_in_numbers T.numbers filled.new.items)) }
 {
@@ -49,7 +52,8 @@ impl<T: Element, V: Eq + Clone + Drop> RangeMapBlaze<T, V> {
     pub fn fill_gaps(&self, alloc: Global) -> Result<RangeMapBlaze<T, Option<V>>, NoMemory>
         requires { (a b : V) → V.is_clone a b → V.eq b a ≡ true }
         ensures canonical { IfOk result (IsCanonicalMap (option_eq V.eq) T.numbers.least T.numbers.greatest) }
-        ensures values { IfOk result (HasValues (option_eq V.eq) (λ x. Some (value_at self.now x)) T.numbers.least T.numbers.greatest) }
+        ensures values { IfOk result (HasValues (option_eq V.eq) (λ x. Some (value_at self.now x))
+            T.numbers.least T.numbers.greatest) }
         ensures first_stays { IfOk result (FirstStays (IsOptionClone V.is_clone) (λ x. Some (value_at self.now x))) }
     {
         let mut filled = Vec::with_capacity(

@@ -53,7 +53,10 @@ fn left_join_keeps_the_left_keys(rt: HostRuntime) -> Result<(), Fail> {
         [(1, 3, (7, None)), (4, 5, (7, Some(9)))].as_slice()
     );
     let both = left.inner_join(alloc, &right, |one: &u8, other: &u8| (*one, *other))?;
-    assert_eq!(rt; listed(alloc, &both)?.as_slice(), [(4, 5, (7, 9))].as_slice());
+    assert_eq!(rt;
+        listed(alloc, &both)?.as_slice(),
+        [(4, 5, (7, 9))].as_slice()
+    );
     Ok(())
 }
 
@@ -62,7 +65,11 @@ fn joins_of_filled_maps(rt: HostRuntime) -> Result<(), Fail> {
     let alloc = rt.alloc();
     let left = map_of(alloc, [(1, 5, 7)].as_slice())?.fill_gaps(alloc)?;
     let right = map_of(alloc, [(4, 8, 9)].as_slice())?.fill_gaps(alloc)?;
-    let both = left.inner_join(alloc, &right, |one: &Option<u8>, other: &Option<u8>| (*one, *other))?;
+    let both = left.inner_join(
+        alloc,
+        &right,
+        |one: &Option<u8>, other: &Option<u8>| (*one, *other),
+    )?;
     assert_eq!(rt;
         listed(alloc, &both)?.as_slice(),
         [
@@ -99,7 +106,14 @@ fn full_join_of_three_maps(rt: HostRuntime) -> Result<(), Fail> {
     })?;
     assert_eq!(rt;
         listed(alloc, &sum)?.as_slice(),
-        [(0, 4, 1), (5, 7, 11), (8, 9, 111), (10, 14, 110), (15, 20, 100)].as_slice()
+        [
+            (0, 4, 1),
+            (5, 7, 11),
+            (8, 9, 111),
+            (10, 14, 110),
+            (15, 20, 100)
+        ]
+        .as_slice()
     );
     Ok(())
 }
@@ -193,10 +207,14 @@ fn joins_reach_both_ends_of_i64(rt: HostRuntime) -> Result<(), Fail> {
     let left = RangeMapBlaze::from_pairs(alloc, low)?;
     let right = RangeMapBlaze::from_pairs(alloc, high)?;
     let both = left.full_join(alloc, &right, |one: Option<&u8>, other: Option<&u8>| {
-        one.copied().unwrap_or(0).wrapping_add(other.copied().unwrap_or(0))
+        one.copied()
+            .unwrap_or(0)
+            .wrapping_add(other.copied().unwrap_or(0))
     })?;
     assert!(rt; both.get(i64::MIN) == Some(&1) && both.get(-1) == Some(&1));
-    assert!(rt; both.get(0) == Some(&3) && both.get(1) == Some(&2) && both.get(i64::MAX) == Some(&2));
+    assert!(rt;
+        both.get(0) == Some(&3) && both.get(1) == Some(&2) && both.get(i64::MAX) == Some(&2)
+    );
     Ok(())
 }
 
@@ -207,7 +225,10 @@ fn bookings_side_by_side(rt: HostRuntime) -> Result<(), Fail> {
     let mine = map_of(alloc, [(9, 11, 4)].as_slice())?;
     let yours = map_of(alloc, [(11, 12, 5)].as_slice())?;
     let both = clashes(alloc, &mine, &yours)?;
-    assert_eq!(rt; listed(alloc, &both)?.as_slice(), [(11, 11, (4, 5))].as_slice());
+    assert_eq!(rt;
+        listed(alloc, &both)?.as_slice(),
+        [(11, 11, (4, 5))].as_slice()
+    );
     let all = side_by_side(alloc, &mine, &yours)?;
     assert_eq!(rt;
         listed(alloc, &all)?.as_slice(),
@@ -276,7 +297,11 @@ fn the_first_of_equal_values_stays(rt: HostRuntime) -> Result<(), Fail> {
     let map = RangeMapBlaze::from_pairs(alloc, pairs)?;
     assert_eq!(rt; line_of_one_range(&map), Some(1));
     let filled = map.fill_gaps(alloc)?;
-    assert!(rt; filled.get(3).is_some_and(|name| name.is_some_and(|name| name.line == 1)));
+    assert!(rt;
+        filled
+            .get(3)
+            .is_some_and(|name| name.is_some_and(|name| name.line == 1))
+    );
     Ok(())
 }
 

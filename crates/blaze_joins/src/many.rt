@@ -54,9 +54,7 @@ impl<T: Element, V: Eq> RangeMapBlaze<T, V> {
 
     /// What holds the key `next`, which comes behind the key `end`.
     fn side_behind(&self, side: Side<T>, end: T, next: T) -> Side<T>
-        requires side {
-            (n : ℤ) × (n ≤ℤ T.numbers.number end) × IsSideOf T.numbers V.eq n self.now side
-        }
+        requires side { (n : ℤ) × (n ≤ℤ T.numbers.number end) × IsSideOf T.numbers V.eq n self.now side }
         requires end { T.numbers.number end ≤ℤ T.numbers.number side.end }
         requires next { T.numbers.number next ≡ T.numbers.number end +ℤ pos 1 }
         ensures { IsSideOf T.numbers V.eq (T.numbers.number next) self.now result }
@@ -86,9 +84,7 @@ fn first_sides<T: Element, V: Eq>(
     alloc: Global,
     maps: &[RangeMapBlaze<T, V>],
 ) -> Result<Vec<Side<T>>, NoMemory>
-    ensures {
-        IfOk result (λ sides. AreSidesOf T.numbers V.eq T.numbers.least maps.now sides.items)
-    }
+    ensures { IfOk result (λ sides. AreSidesOf T.numbers V.eq T.numbers.least maps.now sides.items) }
 {
     let mut sides = Vec::with_capacity(alloc, maps.len())?;
     for map in maps {
@@ -105,16 +101,10 @@ fn sides_behind<T: Element, V: Eq>(
     end: T,
     next: T,
 ) -> Result<Vec<Side<T>>, NoMemory>
-    requires sides {
-        (n : ℤ) × (n ≤ℤ T.numbers.number end) × AreSidesOf T.numbers V.eq n maps.now sides.now
-    }
-    requires end {
-        T.numbers.number end ≤ℤ least_of T.numbers.greatest (ends_of T.numbers sides.now)
-    }
+    requires sides { (n : ℤ) × (n ≤ℤ T.numbers.number end) × AreSidesOf T.numbers V.eq n maps.now sides.now }
+    requires end { T.numbers.number end ≤ℤ least_of T.numbers.greatest (ends_of T.numbers sides.now) }
     requires next { T.numbers.number next ≡ T.numbers.number end +ℤ pos 1 }
-    ensures {
-        IfOk result (λ new. AreSidesOf T.numbers V.eq (T.numbers.number next) maps.now new.items)
-    }
+    ensures { IfOk result (λ new. AreSidesOf T.numbers V.eq (T.numbers.number next) maps.now new.items) }
 {
     let mut new = Vec::with_capacity(alloc, maps.len())?;
     for (i, map) in maps.iter().enumerate() {
@@ -126,9 +116,7 @@ fn sides_behind<T: Element, V: Eq>(
 /// The first key at which one of the sides ends, or the greatest key without any.
 fn first_end<T: Element>(sides: &[Side<T>]) -> T
     ensures is_value { T.numbers.IsValue result }
-    ensures least {
-        T.numbers.number result ≡ least_of T.numbers.greatest (ends_of T.numbers sides.now)
-    }
+    ensures least { T.numbers.number result ≡ least_of T.numbers.greatest (ends_of T.numbers sides.now) }
 {
     let mut end = T::max_value();
     for side in sides {
@@ -144,10 +132,8 @@ fn values_of_each<T: Element, V: Eq + Clone + Drop>(
     sides: &[Side<T>],
 ) -> Result<Vec<Option<V>>, NoMemory>
     requires { length maps.now ≡ length sides.now }
-    ensures {
-        IfOk result (λ values. AllZip (IsOptionClone V.is_clone)
-            (values_of_all (holders_in maps.now sides.now)) values.items)
-    }
+    ensures { IfOk result (λ values. AllZip (IsOptionClone V.is_clone)
+        (values_of_all (holders_in maps.now sides.now)) values.items) }
 {
     let mut values = Vec::with_capacity(alloc, maps.len())?;
     for (i, map) in maps.iter().enumerate() {
@@ -165,10 +151,8 @@ fn present_values<T: Element, V: Eq + Clone + Drop>(
 ) -> Result<Vec<V>, NoMemory>
     requires length { length maps.now ≡ length sides.now }
     requires present { in_all (holders_in maps.now sides.now) ≡ true }
-    ensures {
-        IfOk result (λ values. AllZip (IsOptionClone V.is_clone)
-            (values_of_all (holders_in maps.now sides.now)) (map (λ v. Some v) values.items))
-    }
+    ensures { IfOk result (λ values. AllZip (IsOptionClone V.is_clone)
+        (values_of_all (holders_in maps.now sides.now)) (map (λ v. Some v) values.items)) }
 {
     let mut values = Vec::with_capacity(alloc, maps.len())?;
     for (i, map) in maps.iter().enumerate() {
@@ -204,18 +188,10 @@ pub fn full_join_all<
     V: Eq + Clone + Drop,
     X: Eq + Drop,
     F: FnMut(&[Option<V>]) -> X + Drop,
->(
-    alloc: Global,
-    maps: &[RangeMapBlaze<T, V>],
-    mut f: F,
-) -> Result<RangeMapBlaze<T, X>, NoMemory>
+>(alloc: Global, maps: &[RangeMapBlaze<T, V>], mut f: F) -> Result<RangeMapBlaze<T, X>, NoMemory>
     requires { F.IsAlwaysCallable f }
-    ensures canonical {
-        IfOk result (IsCanonicalMap X.eq T.numbers.least T.numbers.greatest)
-    }
-    ensures joined {
-        IfOk result (IsFullJoinOfAll T.numbers V.is_clone F.FnMut X.eq maps.now f)
-    }
+    ensures canonical { IfOk result (IsCanonicalMap X.eq T.numbers.least T.numbers.greatest) }
+    ensures joined { IfOk result (IsFullJoinOfAll T.numbers V.is_clone F.FnMut X.eq maps.now f) }
 {
     let mut pairs = Vec::new(alloc);
     let mut start = T::min_value();
@@ -237,23 +213,14 @@ pub fn full_join_all<
 
 /// The same over the keys in all maps, each of whose values is handed over. Without maps `f` is called once, with no
 /// value, and every key has its answer.
-pub fn inner_join_all<
-    T: Element,
-    V: Eq + Clone + Drop,
-    X: Eq + Drop,
-    F: FnMut(&[V]) -> X + Drop,
->(
+pub fn inner_join_all<T: Element, V: Eq + Clone + Drop, X: Eq + Drop, F: FnMut(&[V]) -> X + Drop>(
     alloc: Global,
     maps: &[RangeMapBlaze<T, V>],
     mut f: F,
 ) -> Result<RangeMapBlaze<T, X>, NoMemory>
     requires { F.IsAlwaysCallable f }
-    ensures canonical {
-        IfOk result (IsCanonicalMap X.eq T.numbers.least T.numbers.greatest)
-    }
-    ensures joined {
-        IfOk result (IsInnerJoinOfAll T.numbers V.is_clone F.FnMut X.eq maps.now f)
-    }
+    ensures canonical { IfOk result (IsCanonicalMap X.eq T.numbers.least T.numbers.greatest) }
+    ensures joined { IfOk result (IsInnerJoinOfAll T.numbers V.is_clone F.FnMut X.eq maps.now f) }
 {
     let mut pairs = Vec::new(alloc);
     let mut start = T::min_value();

@@ -6,8 +6,8 @@ use Rattle.number_line.proofs.JoinWalk.{joined_first, joined_past, joined_call, 
 use Rattle.range_map.specs.Valued.{pairs_in_numbers}
 use Rattle.range_map.proofs.GrowthLemmas.{end_below-raise}
 use Rattle.blaze_joins.specs.Joins.{CalledAtAny}
-use Rattle.blaze_joins.specs.SideView.{holders_in, ends_of}
-use Rattle.blaze_joins.proofs.SideLemmas.{ends_low, least_high, cut_sides, one_there, sides_long}
+use Rattle.blaze_joins.specs.SideView.{holders_in}
+use Rattle.blaze_joins.proofs.SideLemmas.{ends_low, cut_sides, one_there, sides_long}
 use Rattle.blaze_joins.proofs.many.full_join_all.Goals as goal
 use Rattle.blaze_joins.proofs.many.full_join_all.Goals.{then-one_holds+in_ok-values+in_ok-push_value, else-one_holds}
 
@@ -115,17 +115,17 @@ loop-sides-preserved g c =
       ]);
       sides = c.in_ok-sides-2.ensures;
       joined = rw next (elim c.if-one_holds.branch [
-      | then-one_holds+in_ok-values+in_ok-push_value w ↦ rw (w.f-is, w.pairs-is)
-          (joined_call step same_holders_of_all in_any (holders_of_all_at maps) eq numbers.least numbers.greatest start (end +ℤ pos 1) ((start, end), holders_in maps sides) further _ _ _ _ _ _
-          (sym there ∙ sym (rw c.as_slice-in-loop-sides.ensures.value at w.if-one_holds.ensures))
-          (record {
-            values = w.as_slice-then-one_holds-2.result;
-            clones = rw w.as_slice-then-one_holds-2.ensures.value (rw w.as_slice-then-one_holds.ensures.value at w.in_ok-values.ensures);
-            called = w.f-answer.ensures;
-          })
-          (rw w.new.ensures.value at w.in_ok-push_value.ensures.put) inv.joined)
-      | else-one_holds w ↦ rw (w.f-is, w.pairs-is)
-          (joined_past step same_holders_of_all in_any (holders_of_all_at maps) eq numbers.least numbers.greatest start (end +ℤ pos 1) ((start, end), holders_in maps sides) further _ _ _
-          (sym there ∙ sym (rw c.as_slice-in-loop-sides.ensures.value at w.if-one_holds.ensures)) inv.joined)
-    ]);
+        | then-one_holds+in_ok-values+in_ok-push_value w ↦ rw (w.f-is, w.pairs-is)
+            (joined_call step same_holders_of_all in_any (holders_of_all_at maps) eq numbers.least numbers.greatest start (end +ℤ pos 1) ((start, end), holders_in maps sides) further _ _ _ _ _ _
+            (sym there ∙ sym (rw c.as_slice-in-loop-sides.ensures.value at w.if-one_holds.ensures))
+            (record {
+              values = w.as_slice-then-one_holds-2.result;
+              clones = rw w.as_slice-then-one_holds-2.ensures.value (rw w.as_slice-then-one_holds.ensures.value at w.in_ok-values.ensures);
+              called = w.f-answer.ensures;
+            })
+            (rw w.new.ensures.value at w.in_ok-push_value.ensures.put) inv.joined)
+        | else-one_holds w ↦ rw (w.f-is, w.pairs-is)
+            (joined_past step same_holders_of_all in_any (holders_of_all_at maps) eq numbers.least numbers.greatest start (end +ℤ pos 1) ((start, end), holders_in maps sides) further _ _ _
+            (sym there ∙ sym (rw c.as_slice-in-loop-sides.ensures.value at w.if-one_holds.ensures)) inv.joined)
+      ]);
     }

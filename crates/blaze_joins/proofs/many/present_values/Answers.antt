@@ -1,6 +1,6 @@
 use Rattle.std.proofs.lemmas.Grind.{common_steps}
 use Rattle.std.proofs.lemmas.List.{map-append}
-use Rattle.std.proofs.Common.{◌≡◌, ◌+◌, [], ◌∷◌, ◌++◌, drop, map, arith, refl, ap, ◌∙◌, true}
+use Rattle.std.proofs.Common.{◌≡◌, ◌+◌, [], ◌∷◌, drop, map, arith, refl, ap, ◌∙◌, true}
 use Rattle.std.specs.Prelude.{Some, is_some, ◌&&◌}
 use Rattle.number_line.specs.Pieces.{value_in, values_of_all, in_all}
 use Rattle.blaze_joins.specs.Filled.{IsOptionClone}

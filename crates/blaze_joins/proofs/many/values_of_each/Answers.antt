@@ -16,7 +16,7 @@ loop-i-preserved g c =
     let maps : drop i c.args.maps.now ≡ c.index-maps-i.result ∷ drop (i + 1) c.args.maps.now = grind (arith, common_steps) in
     let sides : drop i c.args.sides.now ≡ c.index-sides-i.result ∷ drop (i + 1) c.args.sides.now = grind (arith, common_steps) in
     let is : values_of_all (holders_in (drop i c.args.maps.now) (drop i c.args.sides.now))
-        ≡ value_in (at_place c.index-maps-i.result c.index-sides-i.result.place) ∷ values_of_all (holders_in (drop (i + 1) c.args.maps.now) (drop (i + 1) c.args.sides.now)) = rw (maps, sides) refl in
+    ≡ value_in (at_place c.index-maps-i.result c.index-sides-i.result.place) ∷ values_of_all (holders_in (drop (i + 1) c.args.maps.now) (drop (i + 1) c.args.sides.now)) = rw (maps, sides) refl in
     zipped_step (IsOptionClone g.V.Clone.is_clone) _ _ _ _ _ _ c.in_ok-clone_at_place.field-0 c.in_ok-push.ensures.items is c.in_ok-clone_at_place.ensures c.loop-i.invariant
 
 pub returns : goal.returns

@@ -1,7 +1,7 @@
-use Rattle.std.proofs.Common.{◌≡◌, drop, length, ap, sym, ◌∙◌}
+use Rattle.std.proofs.Common.{drop, length, ap, sym, ◌∙◌}
 use Rattle.std.proofs.lemmas.List.{drop-map, length-map}
 use Rattle.number_line.proofs.PieceLemmas.{ends_from-lower}
-use Rattle.range_map.specs.Valued.{pairs_in_numbers, pair_in_numbers}
+use Rattle.range_map.specs.Valued.{pair_in_numbers}
 use Rattle.blaze_joins.proofs.map.RangeMapBlaze.side_behind.Goals as goal
 
 pub place_behind-at-requires-clause-ends : goal.place_behind-at-requires-clause-ends

@@ -1,6 +1,6 @@
-use Rattle.std.proofs.Common.{◌≡◌, drop, ap, sym, ◌∙◌}
+use Rattle.std.proofs.Common.{drop, ap, sym, ◌∙◌}
 use Rattle.std.proofs.lemmas.List.{drop-map}
-use Rattle.range_map.specs.Valued.{pairs_in_numbers, pair_in_numbers}
+use Rattle.range_map.specs.Valued.{pair_in_numbers}
 use Rattle.blaze_joins.proofs.map.RangeMapBlaze.side_from.Goals as goal
 
 pub held_from-held-requires-clause-canonical : goal.held_from-held-requires-clause-canonical

@@ -2,7 +2,7 @@ use Rattle.std.proofs.lemmas.Grind.{common_steps}
 use Rattle.std.proofs.Common.{rules, of_calls, ◌≡◌, ◌+◌, [], ◌∷◌, drop, ap, refl, arith, length-drop, ◌∙◌}
 use Rattle.range_map.specs.Valued.{pairs_in_numbers, pair_in_numbers}
 use Rattle.blaze_joins.specs.Joins.{CalledAtValue}
-use Rattle.blaze_joins.proofs.CallLemmas.{come_first, come_ends, come_next, come_all, same_keys}
+use Rattle.blaze_joins.proofs.CallLemmas.{come_ends, come_next, come_all, same_keys}
 use Rattle.blaze_joins.proofs.map.RangeMapBlaze.transform_values.Goals as goal
 
 pub push_value_reserved-requires-clause-end_below : goal.push_value_reserved-requires-clause-end_below
