@@ -72,15 +72,18 @@ impl<'a, K: Ord, V> Entry<'a, K, V> {
     }
 
     /// Calls `f` on the stored value, exactly where the entry is occupied, and answers the entry. It takes no memory.
-    pub fn and_modify<F: FnOnce(&mut V)>(mut self, f: F) -> Entry<'a, K, V>
+    pub fn and_modify<F: FnOnce(&mut V)>(self, f: F) -> Entry<'a, K, V>
         requires { (v : MutBor V) → stored self ≡ Some v.now → F.pre f v }
         ensures place { IsSamePlace self.entry result }
         ensures modified { ModifiesValue F.FnOnce f (stored self.entry) (stored result) }
         ensures pairs { (home result).now.pairs ≡ after_storing self.entry (stored result) }
     {
-        if let Entry::Occupied(taken) = &mut self {
-            f(taken.get_mut());
+        match self {
+            Entry::Occupied(mut taken) => {
+                f(taken.get_mut());
+                Entry::Occupied(taken)
+            }
+            Entry::Vacant(free) => Entry::Vacant(free),
         }
-        self
     }
 }
