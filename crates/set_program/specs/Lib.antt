@@ -1,3 +1,4 @@
+pub mod Endings
 pub mod Counts
 pub mod Devices
 pub mod Outcome

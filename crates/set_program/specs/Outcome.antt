@@ -26,6 +26,13 @@ IsAfterReading TooLong = ⊥
 IsAfterReading Usage = ⊥
 IsAfterReading _ = ⊤
 
+-- a status that comes before anything is written
+abbrev pub IsWithoutWriting : Status → Type 0
+IsWithoutWriting Done = ⊥
+IsWithoutWriting (TextFault fault) = ⊥
+IsWithoutWriting WriteFault = ⊥
+IsWithoutWriting _ = ⊤
+
 -- a status that comes where no text is read
 abbrev pub IsWithoutText : Status → Type 0
 IsWithoutText Done = ⊤

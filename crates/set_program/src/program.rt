@@ -1,14 +1,11 @@
 //! From the words, the source and the sink to the status.
-ghost use Rattle.std.specs.Prelude.{◌≡◌, ◌+◌, ◌<◌, ◌≤◌, ◌↔◌, ℕ, Some, [], true, IfSome, length};
-ghost use Rattle.std.specs.Io.KnownBytes.{Appends};
-ghost use Rattle.set_document.specs.Answer.{answer};
-ghost use Rattle.set_document.specs.FaultText.{fault_line, text_of};
-ghost use Rattle.set_document.specs.Faults.{first_fault, IsWellFormed};
+ghost use Rattle.std.specs.Prelude.{◌≡◌, ◌<◌, ◌≤◌, ◌↔◌, ℕ, Some, [], IfSome, length};
 ghost use Rattle.set_document.specs.Sample.{summary};
 ghost use Rattle.set_program.specs.Command.{AreUnusable, AskForSample};
-ghost use Rattle.set_program.specs.Counts.{Rose, RoseBy, NotRose};
-ghost use Rattle.set_program.specs.Devices.{ReadWhole, AppendsPrefix};
-ghost use Rattle.set_program.specs.Outcome.{IsUnlessNoMemory, status_of};
+ghost use Rattle.set_program.specs.Counts.{Rose, NotRose};
+ghost use Rattle.set_program.specs.Endings.{source_seen, sink_seen, seen, IsWritten, IsCutShort};
+ghost use Rattle.set_program.specs.Endings.{Answered, Faulted, WriteFailed, IsTooLong, IsBounded};
+ghost use Rattle.set_program.specs.Outcome.{IsUnlessNoMemory, IsWithoutWriting, status_of};
 
 use crate::answering::answer_text;
 use crate::arguments::Argument;
@@ -40,82 +37,39 @@ pub fn run<S: Source, K: Sink>(
 ) -> Status
     // The words decide first.
     ensures usage { (result ≡ Status.Usage) ↔ AreUnusable words.now }
-    ensures usage_source { result ≡ Status.Usage → source.new ≡ source.old }
-    ensures usage_sink { result ≡ Status.Usage → sink.new ≡ sink.old }
+    ensures unread { result ≡ Status.Usage → source.new ≡ source.old }
+    ensures unwritten { IsWithoutWriting result → sink.new ≡ sink.old }
 
-    // The whole answer of a text.
-    ensures done_read { words.now ≡ [] → result ≡ Status.Done
-        → ReadWhole MAX_TEXT (S.left source.old) (S.left source.new) }
-    ensures done_text { words.now ≡ [] → result ≡ Status.Done
-        → IfSome (S.left source.old) (λ text. IsWellFormed text) }
-    ensures done_written { words.now ≡ [] → result ≡ Status.Done
-        → IfSome (S.left source.old) (λ text.
-        Appends (K.written sink.old) (K.written sink.new) (answer text)) }
-    ensures done_source_faults { result ≡ Status.Done → S.faults source.new ≡ S.faults source.old }
-    ensures done_sink_faults { result ≡ Status.Done → K.faults sink.new ≡ K.faults sink.old }
-    ensures done_finished { result ≡ Status.Done → K.finished sink.new ≡ true }
+    // Without words: the answer of the text, or its first fault.
+    ensures done { words.now ≡ [] → result ≡ Status.Done
+        → Answered (seen S.Source K.Sink source.old sink.old)
+        (seen S.Source K.Sink source.new sink.new) }
+    ensures text_fault { (fault : AlgebraError) → result ≡ Status.TextFault fault
+        → (words.now ≡ []) × Faulted fault (seen S.Source K.Sink source.old sink.old)
+        (seen S.Source K.Sink source.new sink.new) }
+    ensures read_fault { result ≡ Status.ReadFault
+        → (words.now ≡ []) × Rose (S.faults source.old) (S.faults source.new) }
+    ensures too_long { result ≡ Status.TooLong
+        → (words.now ≡ []) × IsTooLong (source_seen S.Source source.old)
+        (source_seen S.Source source.new) }
+    ensures write_fault { words.now ≡ [] → result ≡ Status.WriteFault
+        → WriteFailed (seen S.Source K.Sink source.old sink.old)
+        (seen S.Source K.Sink source.new sink.new) }
+    ensures no_memory { result ≡ Status.NoMemory
+        → S.faults source.new ≡ S.faults source.old }
 
-    // The counts of a sample.
+    // With the words `sample` and a number of lines: the counts of the sample's answer.
     ensures sample_source { (lines : ℕ) → AskForSample words.now lines
         → source.new ≡ source.old }
-    ensures sample_written { (lines : ℕ) → AskForSample words.now lines → result ≡ Status.Done
-        → Appends (K.written sink.old) (K.written sink.new) (summary lines) }
-    ensures sample_prefix { (lines : ℕ) → AskForSample words.now lines
+    ensures sample_done { (lines : ℕ) → AskForSample words.now lines → result ≡ Status.Done
+        → IsWritten (Some (summary lines)) (sink_seen K.Sink sink.old)
+        (sink_seen K.Sink sink.new) }
+    ensures sample_write_fault { (lines : ℕ) → AskForSample words.now lines
         → result ≡ Status.WriteFault
-        → AppendsPrefix (K.written sink.old) (K.written sink.new) (summary lines) }
+        → IsCutShort (Some (summary lines)) (sink_seen K.Sink sink.old)
+        (sink_seen K.Sink sink.new) }
 
-    // The first fault.
-    ensures fault_words { (fault : AlgebraError) → result ≡ Status.TextFault fault
-        → words.now ≡ [] }
-    ensures fault_read { (fault : AlgebraError) → result ≡ Status.TextFault fault
-        → ReadWhole MAX_TEXT (S.left source.old) (S.left source.new) }
-    ensures fault_text { (fault : AlgebraError) → result ≡ Status.TextFault fault
-        → IfSome (S.left source.old) (λ text. first_fault text ≡ Some fault) }
-    ensures fault_written { (fault : AlgebraError) → result ≡ Status.TextFault fault
-        → Appends (K.written sink.old) (K.written sink.new) (fault_line fault) }
-    ensures fault_is_told { result ≡ Status.TextFault AlgebraError.NoMemory → ⊥ }
-    ensures fault_source_faults { (fault : AlgebraError) → result ≡ Status.TextFault fault
-        → S.faults source.new ≡ S.faults source.old }
-    ensures fault_sink_faults { (fault : AlgebraError) → result ≡ Status.TextFault fault
-        → K.faults sink.new ≡ K.faults sink.old }
-    ensures fault_finished { (fault : AlgebraError) → result ≡ Status.TextFault fault
-        → K.finished sink.new ≡ true }
-
-    // A read failed.
-    ensures read_cause { result ≡ Status.ReadFault
-        → Rose (S.faults source.old) (S.faults source.new) }
-    ensures read_words { result ≡ Status.ReadFault → words.now ≡ [] }
-    ensures read_sink { result ≡ Status.ReadFault → sink.new ≡ sink.old }
-
-    // The text is too long.
-    ensures long_cause { result ≡ Status.TooLong
-        → RoseBy MAX_READ (S.taken source.old) (S.taken source.new) }
-    ensures long_text { result ≡ Status.TooLong
-        → IfSome (S.left source.old) (λ text. MAX_TEXT < length text) }
-    ensures long_words { result ≡ Status.TooLong → words.now ≡ [] }
-    ensures long_source_faults { result ≡ Status.TooLong
-        → S.faults source.new ≡ S.faults source.old }
-    ensures long_sink { result ≡ Status.TooLong → sink.new ≡ sink.old }
-
-    // A write failed.
-    ensures write_cause { result ≡ Status.WriteFault
-        → Rose (K.faults sink.old) (K.faults sink.new) }
-    ensures write_source_faults { result ≡ Status.WriteFault
-        → S.faults source.new ≡ S.faults source.old }
-    ensures write_read { words.now ≡ [] → result ≡ Status.WriteFault
-        → ReadWhole MAX_TEXT (S.left source.old) (S.left source.new) }
-    ensures write_written { words.now ≡ [] → result ≡ Status.WriteFault
-        → IfSome (S.left source.old) (λ text.
-        AppendsPrefix (K.written sink.old) (K.written sink.new) (text_of text)) }
-    ensures write_unfinished { result ≡ Status.WriteFault
-        → K.finished sink.new ≡ true → K.finished sink.old ≡ true }
-
-    // Memory is short.
-    ensures memory_source_faults { result ≡ Status.NoMemory
-        → S.faults source.new ≡ S.faults source.old }
-    ensures memory_sink { result ≡ Status.NoMemory → sink.new ≡ sink.old }
-
-    // Where no call fails, the text and the words decide.
+    // Where no call fails, the words and the text decide.
     ensures complete_text { words.now ≡ [] → IfSome (S.left source.old)
         (λ text. length text ≤ MAX_TEXT
         → NotRose (S.faults source.old) (S.faults source.new)
@@ -128,11 +82,9 @@ pub fn run<S: Source, K: Sink>(
         → NotRose (K.faults sink.old) (K.faults sink.new)
         → IsUnlessNoMemory result Status.Done }
 
-    // Counters.
-    ensures taken { S.taken source.new ≤ S.taken source.old + MAX_READ }
-    ensures taken_never_falls { S.taken source.old ≤ S.taken source.new }
-    ensures source_faults_never_fall { S.faults source.old ≤ S.faults source.new }
-    ensures sink_faults_never_fall { K.faults sink.old ≤ K.faults sink.new }
+    // Whatever the status.
+    ensures bounded { IsBounded (seen S.Source K.Sink source.old sink.old)
+        (seen S.Source K.Sink source.new sink.new) }
 {
     match read_command(words) {
         Some(Command::Answer) => {}
