@@ -1,9 +1,9 @@
 -- The lists that sources give, and what a caller learns who collects a stream or loops over it.
 use Rattle.std.proofs.Common.{◌≡◌, true, List, [], ◌∷◌, Option, Some, None, length, map-id, refl, sym, ap, subst, ◌∙◌, arith}
 use Rattle.std.specs.Prelude.{IfOk, Result}
-use Rattle.std.specs.Iterator.{Yields, DrainsIf, AlwaysYields}
+use Rattle.std.specs.Iterator.{Yields, YieldsFirstBy, DrainsIf, AlwaysYields}
 use Rattle.std.specs.Iterator.Runs.{Run, EveryRun, ItemsAre}
-use Rattle.std.specs.Map.Iter.{TakesFirst}
+use Rattle.std.specs.Map.Iter.{TakesFirst, deref}
 use Rattle.std.specs.Iterator.Adapters.{copied_steps, copied_source}
 use Rattle.std.specs.Option.{option_copied}
 use Rattle.std.specs.Borrow.{Bor}
@@ -47,6 +47,18 @@ list-of_copied {X} it xs e = record { runs = list-of_rest (copied_steps (iter_st
 
     none : (s t : Iter X) (o : Option (Bor X)) → iter_steps s o t → None ≡ option_copied o → iter_rest s ≡ []
     none s t None k e = empty (iter_rest s) k.0
+    none s t (Some y) k e = absurd cc
+
+-- an iterator that is seen as the list of what is left, under `copied`
+pub list-of_shown_copied : {X : Type 0} (it : Copied (List X)) (xs : List X) → copied_source it ≡ xs → GivesList (copied_steps (YieldsFirstBy deref (λ left. left))) it xs
+list-of_shown_copied {X} it xs e = record { runs = list-of_rest (copied_steps (YieldsFirstBy deref (λ left. left))) copied_source (λ s t x k. one (copied_source s) (copied_source t) x k.0 k.1 k.2) (λ s t k. none (copied_source s) (copied_source t) k.0 k.1 k.2) xs it e }
+  where
+    one : (s t : List X) (x : X) (o : Option (Bor X)) → YieldsFirstBy deref (λ left. left) s o t → Some x ≡ option_copied o → s ≡ x ∷ t
+    one s t x None k e = absurd cc
+    one s t x (Some y) k e = let f : x ≡ y.now = cc in k ∙ ap (λ z. z ∷ t) (sym f)
+
+    none : (s t : List X) (o : Option (Bor X)) → YieldsFirstBy deref (λ left. left) s o t → None ≡ option_copied o → s ≡ []
+    none s t None k e = k.0
     none s t (Some y) k e = absurd cc
 
 -- the iterator of a `BTreeSet` that is given up

@@ -1,0 +1,9 @@
+use Rattle.std.proofs.Common.{rules}
+use Rattle.sorted_iter.proofs.SourceLists.{list-of_copied, items-of_collect}
+use Rattle.uses.proofs.streams.items_of_both.Goals as goal
+
+pub returns : goal.returns
+returns g c =
+    let a = c.assume_sorted_by_item-left.ensures.lists _ (list-of_copied _ c.args.a.now.items (search rules)) in
+    let b = c.assume_sorted_by_item-right.ensures.lists _ (list-of_copied _ c.args.b.now.items (search rules)) in
+    items-of_collect c.collect.result (c.intersection.ensures.lists _ _ a b c.iter.ensures.ascending c.iter-2.ensures.ascending) c.collect.ensures.ran
