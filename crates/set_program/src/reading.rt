@@ -57,7 +57,7 @@ pub fn read_text<S: Source>(source: &mut S, buffer: &mut [u8]) -> Reading
         match source.read(&mut buffer[filled..]) {
             Ok(0) => return Reading::Whole(filled),
             Ok(count) => filled += count,
-            Err(Failed) => return Reading::Whole(filled),
+            Err(Failed) => return Reading::Failed,
         }
     }
     Reading::PastLimit

@@ -80,6 +80,8 @@ fn hints_of_streams_just_made(rt: HostRuntime) -> Result<(), Fail> {
         (3, Some(7))
     );
     assert_eq!(rt; (0..5u32).pairs().size_hint(), (5, Some(5)));
+    let listed = [1u32, 4].iter().copied().assume_sorted_by_item();
+    assert_eq!(rt; listed.size_hint(), (2, Some(2)));
     Ok(())
 }
 
