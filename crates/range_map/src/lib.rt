@@ -25,6 +25,8 @@ pub mod sweep;
 #[cfg(test)]
 mod tests;
 
+#[doc(hidden)]
+pub use growing::MapBuilder;
 pub use iter::RangeIter;
 pub use map::RangeMap;
 pub use map_error::{OverlapError, TryFromIterError};
