@@ -8,8 +8,7 @@ ghost use Rattle.blaze_joins.specs.Joins.{CalledAtValue};
 
 use crate::map::RangeMapBlaze;
 use element_core::{Element, NoMemory};
-use range_map::Range;
-use range_map::sweep::push_value_reserved;
+use range_map::{MapBuilder, Range, RangeMap};
 use std::alloc::Global;
 
 /// The same ranges with clones of the values, in their order.
@@ -37,9 +36,9 @@ impl<T: Element, V: Eq> RangeMapBlaze<T, V> {
         V: Drop,
         ensures { IfOk result (λ map. map ≡ ((T.numbers.least, T.numbers.greatest), value) ∷ []) }
     {
-        let mut pairs = Vec::with_capacity(alloc, 1)?;
-        push_value_reserved(&mut pairs, Range::full(), value);
-        Ok(RangeMapBlaze { pairs })
+        let mut map = RangeMap::new(alloc);
+        map.push(Range::full(), value)?;
+        Ok(RangeMapBlaze { map })
     }
 
     /// The map of what `f` answers, called once for each range, in order, with its value. The keys are the same. Of
@@ -55,12 +54,15 @@ impl<T: Element, V: Eq> RangeMapBlaze<T, V> {
         ensures joined { IfOk result (IsJoined (CalledAtValue F.FnMut) X.eq f self.now) }
         ensures keys { IfOk result (λ map. (x : ℤ) → is_some (value_at map x) ≡ is_some (value_at self.now x)) }
     {
-        let mut pairs = Vec::with_capacity(alloc, self.pairs.len())?;
-        for pair in &self.pairs {
+        let pairs = self.map.as_slice();
+        let mut made = MapBuilder::with_room(alloc, pairs.len())?;
+        for pair in pairs {
             let answer = f(&pair.1);
-            push_value_reserved(&mut pairs, pair.0, answer);
+            made.push(pair.0, answer);
         }
-        Ok(RangeMapBlaze { pairs })
+        Ok(RangeMapBlaze {
+            map: made.into_map(),
+        })
     }
 
     /// A map equal to this one, with clones of its values. Takes O(n) time for n ranges, beside the clones.
@@ -72,7 +74,9 @@ impl<T: Element, V: Eq> RangeMapBlaze<T, V> {
         ensures clones { IfOk result (ArePairClones V.is_clone self.now) }
         ensures equal { IfOk result (λ copy. same_list V.eq copy self.now ≡ true) }
     {
-        let pairs = clones_of_pairs(alloc, self.pairs.as_slice())?;
-        Ok(RangeMapBlaze { pairs })
+        let pairs = clones_of_pairs(alloc, self.map.as_slice())?;
+        Ok(RangeMapBlaze {
+            map: RangeMap::from_canonical(pairs),
+        })
     }
 }

@@ -11,8 +11,7 @@ ghost use Rattle.blaze_joins.specs.SideView.{IsPlace, IsSideOf, AreSidesOf, hold
 use crate::map::RangeMapBlaze;
 use crate::pieces::{held_from, lesser, place_behind};
 use element_core::{Element, NoMemory};
-use range_map::Range;
-use range_map::sweep::push_value;
+use range_map::{Range, RangeMap};
 use std::alloc::Global;
 
 /// Where a walk stands in one map.
@@ -32,7 +31,7 @@ impl<T: Element, V: Eq> RangeMapBlaze<T, V> {
         requires { IsPlace T.numbers V.eq (T.numbers.number start) self.now at }
         ensures { IsSideOf T.numbers V.eq (T.numbers.number start) self.now result }
     {
-        let held = held_from(self.pairs.as_slice(), at, start);
+        let held = held_from(self.map.as_slice(), at, start);
         Side {
             at,
             place: held.place,
@@ -44,7 +43,7 @@ impl<T: Element, V: Eq> RangeMapBlaze<T, V> {
     fn first_side(&self) -> Side<T>
         ensures { IsSideOf T.numbers V.eq T.numbers.least self.now result }
     {
-        let held = held_from(self.pairs.as_slice(), 0, T::min_value());
+        let held = held_from(self.map.as_slice(), 0, T::min_value());
         Side {
             at: 0,
             place: held.place,
@@ -59,7 +58,7 @@ impl<T: Element, V: Eq> RangeMapBlaze<T, V> {
         requires next { T.numbers.number next ≡ T.numbers.number end +ℤ pos 1 }
         ensures { IsSideOf T.numbers V.eq (T.numbers.number next) self.now result }
     {
-        let at = place_behind(self.pairs.as_slice(), side.at, end);
+        let at = place_behind(self.map.as_slice(), side.at, end);
         self.side_from(at, next)
     }
 
@@ -71,7 +70,7 @@ impl<T: Element, V: Eq> RangeMapBlaze<T, V> {
     {
         match place {
             None => Ok(None),
-            Some(place) => match self.pairs.get(place) {
+            Some(place) => match self.map.as_slice().get(place) {
                 None => Ok(None),
                 Some(pair) => Ok(Some(pair.1.clone()?)),
             },
@@ -193,7 +192,7 @@ pub fn full_join_all<
     ensures canonical { IfOk result (IsCanonicalMap X.eq T.numbers.least T.numbers.greatest) }
     ensures joined { IfOk result (IsFullJoinOfAll T.numbers V.is_clone F.FnMut X.eq maps.now f) }
 {
-    let mut pairs = Vec::new(alloc);
+    let mut map = RangeMap::new(alloc);
     let mut start = T::min_value();
     let mut sides = first_sides(alloc, maps)?;
     loop {
@@ -201,10 +200,12 @@ pub fn full_join_all<
         if one_holds(sides.as_slice()) {
             let values = values_of_each(alloc, maps, sides.as_slice())?;
             let answer = f(values.as_slice());
-            push_value(&mut pairs, Range::new(start, end), answer)?;
+            map.push(Range::new(start, end), answer)?;
         }
         let Some(next) = end.successor() else {
-            return Ok(RangeMapBlaze { pairs });
+            // This tells that the ranges are canonical.
+            map.as_slice();
+            return Ok(RangeMapBlaze { map });
         };
         sides = sides_behind(alloc, maps, sides.as_slice(), end, next)?;
         start = next;
@@ -222,7 +223,7 @@ pub fn inner_join_all<T: Element, V: Eq + Clone + Drop, X: Eq + Drop, F: FnMut(&
     ensures canonical { IfOk result (IsCanonicalMap X.eq T.numbers.least T.numbers.greatest) }
     ensures joined { IfOk result (IsInnerJoinOfAll T.numbers V.is_clone F.FnMut X.eq maps.now f) }
 {
-    let mut pairs = Vec::new(alloc);
+    let mut map = RangeMap::new(alloc);
     let mut start = T::min_value();
     let mut sides = first_sides(alloc, maps)?;
     loop {
@@ -230,10 +231,12 @@ pub fn inner_join_all<T: Element, V: Eq + Clone + Drop, X: Eq + Drop, F: FnMut(&
         if each_holds(sides.as_slice()) {
             let values = present_values(alloc, maps, sides.as_slice())?;
             let answer = f(values.as_slice());
-            push_value(&mut pairs, Range::new(start, end), answer)?;
+            map.push(Range::new(start, end), answer)?;
         }
         let Some(next) = end.successor() else {
-            return Ok(RangeMapBlaze { pairs });
+            // This tells that the ranges are canonical.
+            map.as_slice();
+            return Ok(RangeMapBlaze { map });
         };
         sides = sides_behind(alloc, maps, sides.as_slice(), end, next)?;
         start = next;
