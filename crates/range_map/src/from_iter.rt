@@ -5,7 +5,6 @@ ghost use Rattle.number_line.specs.Ranges.{holds, IsCanonical};
 ghost use Rattle.range_map.specs.Set.{all_in_numbers};
 ghost use Rattle.range_map.specs.Merging.{BeginInOrder};
 
-use crate::merging::push_joined;
 use crate::range::Range;
 use crate::set::RangeSet;
 use element_core::{Element, NoMemory, compare};
@@ -17,11 +16,11 @@ fn join_in_order<T: Element>(alloc: Global, ranges: &[Range<T>]) -> Result<Range
     ensures canonical { IfOk result (IsCanonical T.numbers.least T.numbers.greatest) }
     ensures members { IfOk result (λ set. (x : ℤ) → holds set x ≡ holds (all_in_numbers T.numbers ranges.now) x) }
 {
-    let mut kept = Vec::with_capacity(alloc, ranges.len())?;
+    let mut set = RangeSet::with_capacity(alloc, ranges.len())?;
     for range in ranges {
-        push_joined(&mut kept, *range)?;
+        set.push_joined(*range)?;
     }
-    Ok(RangeSet { ranges: kept })
+    Ok(set)
 }
 
 /// The set of the values in any of the ranges.

@@ -1,13 +1,16 @@
-//! Two lists of ranges read together, and a list of ranges made from its first range on.
-ghost use Rattle.std.specs.Prelude.{◌≡◌, ℤ, pos, ◌+◌, ◌<◌, ◌≤ℤ◌, ◌+ℤ◌, [], length, OnOk, IfSome, IfNone};
+//! Two lists of ranges read together, and a set made from its first range on.
+ghost use Rattle.std.specs.Prelude.{◌≡◌, ℤ, pos, ◌+◌, ◌<◌, ◌≤ℤ◌, ◌+ℤ◌, ◌&&◌, true, [], ◌∷◌, ◌++◌, length};
+ghost use Rattle.std.specs.Prelude.{IfOk, OnOk, IfSome, IfNone, vec_len, vec_capacity};
 ghost use Rattle.std.specs.Bool.{MatchBool};
-ghost use Rattle.number_line.specs.Ranges.{IsCanonical};
+ghost use Rattle.number_line.specs.Ranges.{lies_in};
 ghost use Rattle.range_map.specs.Range.{in_numbers};
-ghost use Rattle.range_map.specs.Set.{all_in_numbers, AreRanges};
-ghost use Rattle.range_map.specs.Merging.{BeginBy, IsTaken, IsJoined, IsGapPushed, IsCommonPushed};
+ghost use Rattle.range_map.specs.Set.{all_in_numbers, AreRanges, IsSet};
+ghost use Rattle.range_map.specs.Merging.{BeginBy, EndApart, IsTaken, IsJoined, IsGapPushed, IsCommonPushed};
 
 use crate::range::Range;
+use crate::set::RangeSet;
 use element_core::{Element, NoMemory, is_below};
+use std::alloc::Global;
 
 /// The range of two lists that begins first, and what is left of them.
 #[derive(Clone, Copy)]
@@ -24,8 +27,11 @@ pub(crate) fn take_first<'a, T: Element>(
     right: &'a [Range<T>],
 ) -> Option<Taken<'a, T>>
     ensures none { IfNone result ((left.now ≡ []) × (right.now ≡ [])) }
-    ensures taken { IfSome result (λ t. IsTaken T.numbers.greatest (all_in_numbers T.numbers left.now) (all_in_numbers T.numbers right.now) (in_numbers T.numbers t.next) (all_in_numbers T.numbers t.left.now) (all_in_numbers T.numbers t.right.now)) }
-    ensures fewer { IfSome result (λ t. length t.left.now + length t.right.now < length left.now + length right.now) }
+    ensures taken { IfSome result (λ t. IsTaken T.numbers.greatest
+        (all_in_numbers T.numbers left.now) (all_in_numbers T.numbers right.now) (in_numbers T.numbers t.next)
+        (all_in_numbers T.numbers t.left.now) (all_in_numbers T.numbers t.right.now)) }
+    ensures fewer { IfSome result (λ t.
+        length t.left.now + length t.right.now < length left.now + length right.now) }
 {
     let Some((a, after_a)) = left.split_first() else {
         let (b, after_b) = right.split_first()?;
@@ -59,7 +65,9 @@ pub(crate) fn take_first<'a, T: Element>(
 
 /// Whether `next`, which begins no earlier than `last`, overlaps or touches it.
 fn joins<T: Element>(last: &Range<T>, next: &Range<T>) -> bool
-    ensures { MatchBool result (T.numbers.number next.now.0 ≤ℤ (T.numbers.number last.now.1 +ℤ pos 1)) ((T.numbers.number last.now.1 +ℤ pos 2) ≤ℤ T.numbers.number next.now.0) }
+    ensures { MatchBool result
+        (T.numbers.number next.now.0 ≤ℤ (T.numbers.number last.now.1 +ℤ pos 1))
+        ((T.numbers.number last.now.1 +ℤ pos 2) ≤ℤ T.numbers.number next.now.0) }
 {
     let start = next.start();
     start.in_type();
@@ -69,70 +77,91 @@ fn joins<T: Element>(last: &Range<T>, next: &Range<T>) -> bool
     }
 }
 
-/// Puts `range` behind the ranges of `list`, none of which begins later, as one with the last of them where the
-/// two overlap or touch.
-pub(crate) fn push_joined<T: Element>(
-    list: &mut Vec<Range<T>>,
-    range: Range<T>,
-) -> Result<(), NoMemory>
-    requires are_ranges { AreRanges T.numbers list.old.items }
-    requires canonical { IsCanonical T.numbers.least T.numbers.greatest (all_in_numbers T.numbers list.old.items) }
+/// Puts `range` behind the ranges of a set, none of which begins later and for which there is room, as one with the last
+/// of them where the two overlap or touch.
+fn join_last<T: Element>(list: &mut Vec<Range<T>>, range: Range<T>)
+    requires set { IsSet T.numbers list.old.items }
     requires begin_by { BeginBy (T.numbers.number range.0) (all_in_numbers T.numbers list.old.items) }
-    ensures are_ranges { OnOk result (AreRanges T.numbers list.new.items) }
-    ensures joined { OnOk result (IsJoined T.numbers.least T.numbers.greatest (all_in_numbers T.numbers list.old.items) (in_numbers T.numbers range) (all_in_numbers T.numbers list.new.items)) }
+    requires room { vec_len list.old < vec_capacity list.old }
+    ensures are_ranges { AreRanges T.numbers list.new.items }
+    ensures joined { IsJoined T.numbers.least T.numbers.greatest (all_in_numbers T.numbers list.old.items)
+        (in_numbers T.numbers range) (all_in_numbers T.numbers list.new.items) }
 {
     // These two tell that the range lies within the type.
     range.start();
     range.end();
     match list.pop() {
-        None => {
-            list.push(range)?;
-            Ok(())
-        }
+        None => list.push_reserved(range),
         Some(last) => {
             if joins(&last, &range) {
-                list.push(last.cover(&range))?;
-                return Ok(());
+                list.push_reserved(last.cover(&range));
+            } else {
+                list.push_reserved(last);
+                list.push_reserved(range);
             }
-            list.push(last)?;
-            list.push(range)?;
-            Ok(())
         }
     }
 }
 
-/// Puts the values from `start` to below `range` behind `list`, if there are any.
-pub(crate) fn push_gap<T: Element>(
-    list: &mut Vec<Range<T>>,
-    start: T,
-    range: &Range<T>,
-) -> Result<(), NoMemory>
-    requires are_ranges { AreRanges T.numbers list.old.items }
-    requires no_later { T.numbers.number start ≤ℤ T.numbers.number range.now.0 }
-    ensures are_ranges { OnOk result (AreRanges T.numbers list.new.items) }
-    ensures pushed { OnOk result (IsGapPushed (all_in_numbers T.numbers list.old.items) (T.numbers.number start) (T.numbers.number range.now.0) (all_in_numbers T.numbers list.new.items)) }
-{
-    start.in_type();
-    if let Some(end) = range.start().predecessor() {
-        if !is_below(end, start) {
-            list.push(Range::new(start, end))?;
-        }
+impl<T: Element> RangeSet<T> {
+    /// The empty set, with room for so many ranges.
+    pub(crate) fn with_capacity(alloc: Global, ranges: usize) -> Result<Self, NoMemory>
+        ensures { IfOk result (λ set. set ≡ []) }
+    {
+        let ranges = Vec::with_capacity(alloc, ranges)?;
+        Ok(RangeSet { ranges })
     }
-    Ok(())
-}
 
-/// Puts the values in both ranges behind `list`, if there are any.
-pub(crate) fn push_common<T: Element>(
-    list: &mut Vec<Range<T>>,
-    left: &Range<T>,
-    right: &Range<T>,
-) -> Result<(), NoMemory>
-    requires { AreRanges T.numbers list.old.items }
-    ensures are_ranges { OnOk result (AreRanges T.numbers list.new.items) }
-    ensures pushed { OnOk result (IsCommonPushed (all_in_numbers T.numbers list.old.items) (in_numbers T.numbers left.now) (in_numbers T.numbers right.now) (all_in_numbers T.numbers list.new.items)) }
-{
-    if let Some(both) = left.intersection(right) {
-        list.push(both)?;
+    /// Puts `range` behind the others, none of which begins later, as one with the last of them where the two overlap or
+    /// touch.
+    pub(crate) fn push_joined(&mut self, range: Range<T>) -> Result<(), NoMemory>
+        requires { BeginBy (T.numbers.number range.0) self.old }
+        ensures { OnOk result (IsJoined T.numbers.least T.numbers.greatest self.old
+            (in_numbers T.numbers range) self.new) }
+    {
+        self.ranges.reserve(1)?;
+        join_last(&mut self.ranges, range);
+        Ok(())
     }
-    Ok(())
+
+    /// Puts `range` behind the others, which end two values or more before it.
+    pub(crate) fn push_apart(&mut self, range: Range<T>) -> Result<(), NoMemory>
+        requires { EndApart (T.numbers.number range.0) self.old }
+        ensures { OnOk result (self.new ≡ self.old ++ in_numbers T.numbers range ∷ []) }
+    {
+        // These two tell that the range lies within the type.
+        range.start();
+        range.end();
+        self.ranges.push(range)?;
+        Ok(())
+    }
+
+    /// Puts the values from `start` to below `range` behind the others, if there are any.
+    pub(crate) fn push_gap(&mut self, start: T, range: &Range<T>) -> Result<(), NoMemory>
+        requires apart { EndApart (T.numbers.number start) self.old }
+        requires no_later { T.numbers.number start ≤ℤ T.numbers.number range.now.0 }
+        ensures { OnOk result (IsGapPushed self.old (T.numbers.number start)
+            (T.numbers.number range.now.0) self.new) }
+    {
+        start.in_type();
+        if let Some(end) = range.start().predecessor() {
+            if !is_below(end, start) {
+                self.push_apart(Range::new(start, end))?;
+            }
+        }
+        Ok(())
+    }
+
+    /// Puts the values in both ranges behind the others, if there are any.
+    pub(crate) fn push_common(&mut self, left: &Range<T>, right: &Range<T>) -> Result<(), NoMemory>
+        requires { (x : ℤ) → (lies_in (in_numbers T.numbers left.now) x && lies_in (in_numbers T.numbers right.now) x) ≡ true
+            → EndApart x self.old }
+        ensures { OnOk result (IsCommonPushed self.old (in_numbers T.numbers left.now)
+            (in_numbers T.numbers right.now) self.new) }
+    {
+        if let Some(both) = left.intersection(right) {
+            self.push_apart(both)?;
+        }
+        Ok(())
+    }
 }

@@ -4,7 +4,7 @@ ghost use Rattle.number_line.specs.Ranges.{holds, IsCanonical};
 ghost use Rattle.range_map.specs.Range.{in_numbers};
 
 use crate::iter::RangeIter;
-use crate::merging::{push_common, push_gap, push_joined, take_first};
+use crate::merging::take_first;
 use crate::range::Range;
 use element_core::{Element, NoMemory, is_below};
 use std::alloc::Global;
@@ -111,13 +111,13 @@ impl<T: Element> RangeSet<T> {
     {
         let mut left = self.ranges.as_slice();
         let mut right = other.ranges.as_slice();
-        let mut ranges = Vec::with_capacity(alloc, left.len().saturating_add(right.len()))?;
+        let mut set = RangeSet::with_capacity(alloc, left.len().saturating_add(right.len()))?;
         while let Some(taken) = take_first(left, right) {
-            push_joined(&mut ranges, taken.next)?;
+            set.push_joined(taken.next)?;
             left = taken.left;
             right = taken.right;
         }
-        Ok(RangeSet { ranges })
+        Ok(set)
     }
 
     /// The set of the values that are members of both sets. Takes O(n + m) time for n and m ranges.
@@ -127,38 +127,39 @@ impl<T: Element> RangeSet<T> {
     {
         let mut left = self.ranges.as_slice();
         let mut right = other.ranges.as_slice();
-        let mut ranges = Vec::with_capacity(alloc, left.len().saturating_add(right.len()))?;
+        let mut set = RangeSet::with_capacity(alloc, left.len().saturating_add(right.len()))?;
         while let Some((first, after_first)) = left.split_first() {
             let Some((second, after_second)) = right.split_first() else {
-                return Ok(RangeSet { ranges });
+                return Ok(set);
             };
-            push_common(&mut ranges, first, second)?;
+            set.push_common(first, second)?;
             if is_below(first.end(), second.end()) {
                 left = after_first;
             } else {
                 right = after_second;
             }
         }
-        Ok(RangeSet { ranges })
+        Ok(set)
     }
 
     /// The set of the values that aren't members, the two ends of the type included. Takes O(n) time for n ranges.
     pub fn negated(&self, alloc: Global) -> Result<Self, NoMemory>
         ensures canonical { IfOk result (IsCanonical T.numbers.least T.numbers.greatest) }
-        ensures members { IfOk result (λ set. (x : ℤ) → T.numbers.least ≤ℤ x → x ≤ℤ T.numbers.greatest → holds set x ≡ not (holds self.now x)) }
+        ensures members { IfOk result (λ set. (x : ℤ) → T.numbers.least ≤ℤ x → x ≤ℤ T.numbers.greatest
+            → holds set x ≡ not (holds self.now x)) }
     {
-        let mut ranges = Vec::with_capacity(alloc, self.ranges.len().saturating_add(1))?;
+        let mut set = RangeSet::with_capacity(alloc, self.ranges.len().saturating_add(1))?;
         let mut start = T::min_value();
         for range in &self.ranges {
-            push_gap(&mut ranges, start, range)?;
+            set.push_gap(start, range)?;
             match range.end().successor() {
                 Some(next) => start = next,
-                None => return Ok(RangeSet { ranges }),
+                None => return Ok(set),
             }
         }
         start.in_type();
-        ranges.push(Range::new(start, T::max_value()))?;
-        Ok(RangeSet { ranges })
+        set.push_apart(Range::new(start, T::max_value()))?;
+        Ok(set)
     }
 
     /// A set equal to this one. Takes O(n) time for n ranges.

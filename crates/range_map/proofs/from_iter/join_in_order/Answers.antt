@@ -6,12 +6,11 @@ use Rattle.range_map.proofs.from_iter.join_in_order.Goals as goal
 
 pub loop-range-init : goal.loop-range-init
 loop-range-init g c = record {
-  are_ranges = rw c.in_ok-kept.ensures.items tt;
-  joined = rw c.in_ok-kept.ensures.items (joined_start _ _ _ c.requires);
+  joined = rw c.in_ok-set.ensures (joined_start _ _ _ c.requires);
 }
 
-pub push_joined-requires-clause-begin_by : goal.push_joined-requires-clause-begin_by
-push_joined-requires-clause-begin_by g c =
+pub push_joined-requires : goal.push_joined-requires
+push_joined-requires g c =
     let i = c.loop-range.range-index in
     let e : drop i c.args.ranges.now ≡ c.range-item.result ∷ drop (i + 1) c.args.ranges.now = grind (arith, common_steps) in
     joined_next _ _ _ _ _ _ _ (ap (all_in_numbers g.T.Element.numbers) e) c.loop-range.invariant.joined
@@ -21,8 +20,7 @@ loop-range-preserved g c =
     let i = c.loop-range.range-index in
     let e : drop i c.args.ranges.now ≡ c.range-item.result ∷ drop (i + 1) c.args.ranges.now = grind (arith, common_steps) in
     record {
-      are_ranges = c.in_ok-push_joined.ensures.are_ranges;
-      joined = joined_step _ _ _ _ _ _ _ _ (ap (all_in_numbers g.T.Element.numbers) e) c.loop-range.invariant.joined c.in_ok-push_joined.ensures.joined;
+      joined = joined_step _ _ _ _ _ _ _ _ (ap (all_in_numbers g.T.Element.numbers) e) c.loop-range.invariant.joined c.in_ok-push_joined.ensures;
     }
 
 pub returns-clause-members : goal.returns-clause-members
