@@ -2,7 +2,7 @@
 ghost use Rattle.std.specs.Prelude.{◌≡◌, ℤ, ◌∷◌, [], IfOk, is_some, true};
 ghost use Rattle.number_line.specs.Pieces.{IsJoined};
 ghost use Rattle.number_line.specs.Valued.{value_at, IsCanonicalMap, same_list};
-ghost use Rattle.range_map.specs.Valued.{pairs_in_numbers, IsMap, AreValuedRanges};
+ghost use Rattle.range_map.specs.Valued.{pairs_in_numbers, IsMap, AreValuedRanges, ClonesAreEqual};
 ghost use Rattle.blaze_joins.specs.Cloned.{ArePairClones};
 ghost use Rattle.blaze_joins.specs.Joins.{CalledAtValue};
 
@@ -17,7 +17,8 @@ fn clones_of_pairs<T: Element, V: Eq + Clone + Drop>(
     pairs: &[(Range<T>, V)],
 ) -> Result<Vec<(Range<T>, V)>, NoMemory>
     ensures are_ranges { IfOk result (λ copy. AreValuedRanges T.numbers copy.items) }
-    ensures clones { IfOk result (λ copy. ArePairClones V.is_clone (pairs_in_numbers T.numbers pairs.now)
+    ensures clones { IfOk result
+        (λ copy. ArePairClones V.is_clone (pairs_in_numbers T.numbers pairs.now)
         (pairs_in_numbers T.numbers copy.items)) }
 {
     let mut copy = Vec::with_capacity(alloc, pairs.len())?;
@@ -41,9 +42,10 @@ impl<T: Element, V: Eq> RangeMapBlaze<T, V> {
         Ok(RangeMapBlaze { map })
     }
 
-    /// The map of what `f` answers, called once for each range, in order, with its value. The keys are the same. Of
-    /// touching ranges with equal answers, which become one, the first answer stays. After `NoMemory` the function was
-    /// not called. Takes O(n) time for n ranges, beside the calls.
+    /// The map of what `f` answers, called once for each range, in order, with its value. The keys
+    /// are the same. Of touching ranges with equal answers, which become one, the first answer
+    /// stays. After `NoMemory` the function was not called. Takes O(n) time for n ranges, beside
+    /// the calls.
     pub fn transform_values<X: Eq + Drop, F: FnMut(&V) -> X + Drop>(
         &self,
         alloc: Global,
@@ -52,7 +54,8 @@ impl<T: Element, V: Eq> RangeMapBlaze<T, V> {
         requires { F.IsAlwaysCallable f }
         ensures canonical { IfOk result (IsCanonicalMap X.eq T.numbers.least T.numbers.greatest) }
         ensures joined { IfOk result (IsJoined (CalledAtValue F.FnMut) X.eq f self.now) }
-        ensures keys { IfOk result (λ map. (x : ℤ) → is_some (value_at map x) ≡ is_some (value_at self.now x)) }
+        ensures keys { IfOk result
+            (λ map. (x : ℤ) → is_some (value_at map x) ≡ is_some (value_at self.now x)) }
     {
         let pairs = self.map.as_slice();
         let mut made = MapBuilder::with_room(alloc, pairs.len())?;
@@ -65,11 +68,12 @@ impl<T: Element, V: Eq> RangeMapBlaze<T, V> {
         })
     }
 
-    /// A map equal to this one, with clones of its values. Takes O(n) time for n ranges, beside the clones.
+    /// A map equal to this one, with clones of its values. Takes O(n) time for n ranges, beside the
+    /// clones.
     pub fn try_clone(&self, alloc: Global) -> Result<Self, NoMemory>
     where
         V: Clone + Drop,
-        requires { (a b : V) → V.is_clone a b → V.eq b a ≡ true }
+        requires { ClonesAreEqual V.is_clone V.eq }
         ensures canonical { IfOk result (IsCanonicalMap V.eq T.numbers.least T.numbers.greatest) }
         ensures clones { IfOk result (ArePairClones V.is_clone self.now) }
         ensures equal { IfOk result (λ copy. same_list V.eq copy self.now ≡ true) }

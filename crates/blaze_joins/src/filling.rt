@@ -1,11 +1,13 @@
 //! Maps without gaps.
-ghost use Rattle.std.specs.Prelude.{◌≡◌, ℤ, pos, ◌-ℤ◌, ◌≤ℤ◌, ◌<ℤ◌, Option, Some, None, IfOk, OnOk, true};
+ghost use Rattle.std.specs.Prelude.{◌≡◌, ℤ, pos, ◌-ℤ◌, ◌≤ℤ◌, ◌<ℤ◌};
+ghost use Rattle.std.specs.Prelude.{Option, Some, None, IfOk, OnOk, true};
 ghost use Rattle.std.specs.Option.{option_eq};
 ghost use Rattle.number_line.specs.Merged.{FirstStays};
 ghost use Rattle.number_line.specs.Valued.{value_at, IsCanonicalMap, HasValues};
 ghost use Rattle.range_map.specs.Range.{in_numbers};
 ghost use Rattle.range_map.specs.Sweep.{EndBelow, IsLabelled};
 ghost use Rattle.blaze_joins.specs.Filled.{IsOptionClone};
+ghost use Rattle.range_map.specs.Valued.{ClonesAreEqual};
 
 use crate::map::RangeMapBlaze;
 use element_core::{Element, NoMemory, is_below};
@@ -42,14 +44,16 @@ fn push_gap<T: Element, V: Eq + Clone + Drop>(
 }
 
 impl<T: Element, V: Eq + Clone + Drop> RangeMapBlaze<T, V> {
-    /// The map in which every key has a value: `Some` of a clone of its value here, or `None` where it has none. Takes
-    /// O(n) time for n ranges, beside the clones: one for each range.
+    /// The map in which every key has a value: `Some` of a clone of its value here, or `None` where
+    /// it has none. Takes O(n) time for n ranges, beside the clones: one for each range.
     pub fn fill_gaps(&self, alloc: Global) -> Result<RangeMapBlaze<T, Option<V>>, NoMemory>
-        requires { (a b : V) → V.is_clone a b → V.eq b a ≡ true }
-        ensures canonical { IfOk result (IsCanonicalMap (option_eq V.eq) T.numbers.least T.numbers.greatest) }
+        requires { ClonesAreEqual V.is_clone V.eq }
+        ensures canonical { IfOk result
+            (IsCanonicalMap (option_eq V.eq) T.numbers.least T.numbers.greatest) }
         ensures values { IfOk result (HasValues (option_eq V.eq) (λ x. Some (value_at self.now x))
             T.numbers.least T.numbers.greatest) }
-        ensures first_stays { IfOk result (FirstStays (IsOptionClone V.is_clone) (λ x. Some (value_at self.now x))) }
+        ensures first_stays { IfOk result
+            (FirstStays (IsOptionClone V.is_clone) (λ x. Some (value_at self.now x))) }
     {
         let pairs = self.map.as_slice();
         let most = pairs.len().saturating_mul(2).saturating_add(1);

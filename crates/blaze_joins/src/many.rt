@@ -1,12 +1,15 @@
-//! Joins of many maps: a function is called once for each piece of all of them, and its answers become a map.
-ghost use Rattle.std.specs.Prelude.{◌≡◌, ℤ, pos, ◌+ℤ◌, ◌≤ℤ◌, Some, IfOk, is_some, length, map, true};
+//! Joins of many maps: a function is called once for each piece of all of them, and its answers
+//! become a map.
+ghost use Rattle.std.specs.Prelude.{◌≡◌, ℤ, pos, ◌+ℤ◌, ◌≤ℤ◌, Some};
+ghost use Rattle.std.specs.Prelude.{IfOk, is_some, length, map, true};
 ghost use Rattle.std.specs.List.{AllZip, list_any, list_all};
 ghost use Rattle.number_line.specs.Pieces.{value_in, values_of_all, in_all};
 ghost use Rattle.number_line.specs.Valued.{IsCanonicalMap};
 ghost use Rattle.blaze_joins.specs.Filled.{IsOptionClone};
 ghost use Rattle.blaze_joins.specs.Joins.{IsFullJoinOfAll, IsInnerJoinOfAll};
 ghost use Rattle.blaze_joins.specs.PieceView.{at_place};
-ghost use Rattle.blaze_joins.specs.SideView.{IsPlace, IsSideOf, AreSidesOf, holders_in, least_of, ends_of};
+ghost use Rattle.blaze_joins.specs.SideView.{IsPlace, IsSideOf, AreSidesOf};
+ghost use Rattle.blaze_joins.specs.SideView.{holders_in, least_of, ends_of};
 
 use crate::map::RangeMapBlaze;
 use crate::pieces::{held_from, lesser, place_behind};
@@ -53,7 +56,8 @@ impl<T: Element, V: Eq> RangeMapBlaze<T, V> {
 
     /// What holds the key `next`, which comes behind the key `end`.
     fn side_behind(&self, side: Side<T>, end: T, next: T) -> Side<T>
-        requires side { (n : ℤ) × (n ≤ℤ T.numbers.number end) × IsSideOf T.numbers V.eq n self.now side }
+        requires side { (n : ℤ) × (n ≤ℤ T.numbers.number end) × IsSideOf T.numbers V.eq n self.now
+            side }
         requires end { T.numbers.number end ≤ℤ T.numbers.number side.end }
         requires next { T.numbers.number next ≡ T.numbers.number end +ℤ pos 1 }
         ensures { IsSideOf T.numbers V.eq (T.numbers.number next) self.now result }
@@ -83,7 +87,8 @@ fn first_sides<T: Element, V: Eq>(
     alloc: Global,
     maps: &[RangeMapBlaze<T, V>],
 ) -> Result<Vec<Side<T>>, NoMemory>
-    ensures { IfOk result (λ sides. AreSidesOf T.numbers V.eq T.numbers.least maps.now sides.items) }
+    ensures { IfOk result
+        (λ sides. AreSidesOf T.numbers V.eq T.numbers.least maps.now sides.items) }
 {
     let mut sides = Vec::with_capacity(alloc, maps.len())?;
     for map in maps {
@@ -100,10 +105,13 @@ fn sides_behind<T: Element, V: Eq>(
     end: T,
     next: T,
 ) -> Result<Vec<Side<T>>, NoMemory>
-    requires sides { (n : ℤ) × (n ≤ℤ T.numbers.number end) × AreSidesOf T.numbers V.eq n maps.now sides.now }
-    requires end { T.numbers.number end ≤ℤ least_of T.numbers.greatest (ends_of T.numbers sides.now) }
+    requires sides { (n : ℤ) × (n ≤ℤ T.numbers.number end) × AreSidesOf T.numbers V.eq n maps.now
+        sides.now }
+    requires end { T.numbers.number end ≤ℤ least_of T.numbers.greatest
+        (ends_of T.numbers sides.now) }
     requires next { T.numbers.number next ≡ T.numbers.number end +ℤ pos 1 }
-    ensures { IfOk result (λ new. AreSidesOf T.numbers V.eq (T.numbers.number next) maps.now new.items) }
+    ensures { IfOk result
+        (λ new. AreSidesOf T.numbers V.eq (T.numbers.number next) maps.now new.items) }
 {
     let mut new = Vec::with_capacity(alloc, maps.len())?;
     for (i, map) in maps.iter().enumerate() {
@@ -115,7 +123,8 @@ fn sides_behind<T: Element, V: Eq>(
 /// The first key at which one of the sides ends, or the greatest key without any.
 fn first_end<T: Element>(sides: &[Side<T>]) -> T
     ensures is_value { T.numbers.IsValue result }
-    ensures least { T.numbers.number result ≡ least_of T.numbers.greatest (ends_of T.numbers sides.now) }
+    ensures least { T.numbers.number result ≡ least_of T.numbers.greatest
+        (ends_of T.numbers sides.now) }
 {
     let mut end = T::max_value();
     for side in sides {
@@ -177,11 +186,12 @@ fn each_holds<T: Element>(sides: &[Side<T>]) -> bool
     sides.iter().all(|side| side.place.is_some())
 }
 
-/// The map of what `f` answers, called once for each piece over the keys in any of the maps, in order, with a clone of
-/// each map's value there, or `None`, in the order of the maps. A piece is a range of keys on which what holds them, in
-/// each map, stays the same. Of touching pieces with equal answers the first answer stays. Without maps `f` isn't
-/// called, and no key has a value. After `NoMemory` the function was called at the first pieces, or at none. Takes
-/// O(k) time a piece for k maps, beside the call and the clones, and O(k) memory beside the answer.
+/// The map of what `f` answers, called once for each piece over the keys in any of the maps, in
+/// order, with a clone of each map's value there, or `None`, in the order of the maps. A piece is a
+/// range of keys on which what holds them, in each map, stays the same. Of touching pieces with
+/// equal answers the first answer stays. Without maps `f` isn't called, and no key has a value.
+/// After `NoMemory` the function was called at the first pieces, or at none. Takes O(k) time a
+/// piece for k maps, beside the call and the clones, and O(k) memory beside the answer.
 pub fn full_join_all<
     T: Element,
     V: Eq + Clone + Drop,
@@ -212,8 +222,8 @@ pub fn full_join_all<
     }
 }
 
-/// The same over the keys in all maps, each of whose values is handed over. Without maps `f` is called once, with no
-/// value, and every key has its answer.
+/// The same over the keys in all maps, each of whose values is handed over. Without maps `f` is
+/// called once, with no value, and every key has its answer.
 pub fn inner_join_all<T: Element, V: Eq + Clone + Drop, X: Eq + Drop, F: FnMut(&[V]) -> X + Drop>(
     alloc: Global,
     maps: &[RangeMapBlaze<T, V>],

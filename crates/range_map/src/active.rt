@@ -3,7 +3,8 @@ ghost use Rattle.std.specs.Prelude.{◌≡◌, ℕ, ◌+◌, ◌==◌, ℤ, ◌�
 ghost use Rattle.std.specs.List.Sorted.{IsSorted};
 ghost use Rattle.std.specs.Ordering.{nat_cmp};
 ghost use Rattle.number_line.specs.Ranges.{xor};
-ghost use Rattle.range_map.specs.Bounds.{has_place, is_odd, AscendFrom, AscendBelow, AreActive, places_at};
+ghost use Rattle.range_map.specs.Bounds.{has_place, is_odd, AscendFrom, AscendBelow};
+ghost use Rattle.range_map.specs.Bounds.{IsToggled, StaysActive, ArePlacesAt};
 
 use crate::bounds::Bound;
 use element_core::{Element, NoMemory, is_below};
@@ -24,16 +25,22 @@ impl<'a, T: Element> Model for ActivePlaces<'a, T> {
 
     ghost Value = { Active };
 
-    ghost view = { λ active. record { places = active.places.items; rest = bounds_in_numbers T.numbers active.rest.now } };
+    ghost view = { λ active. record {
+      places = active.places.items;
+      rest = bounds_in_numbers T.numbers active.rest.now;
+    } };
 
-    ghost invariant = { λ active. (DoNotFallFrom T.numbers T.numbers.least (map (λ bound. bound.at) active.rest.now)) × AscendFrom 0 active.places.items };
+    ghost invariant = { λ active.
+        DoNotFallFrom T.numbers T.numbers.least (map (λ bound. bound.at) active.rest.now)
+        × AscendFrom 0 active.places.items };
 }
 
-/// Takes `place` off where it is the last one, and else puts it behind the others. None of them is greater.
+/// Takes `place` off where it is the last one, and else puts it behind the others. None of them is
+/// greater.
 fn toggle(places: &mut Vec<usize>, place: usize) -> Result<(), NoMemory>
     requires { AscendBelow 0 (place + 1) places.old.items }
     ensures ascending { OnOk result (AscendBelow 0 (place + 1) places.new.items) }
-    ensures toggled { OnOk result ((other : ℕ) → has_place places.new.items other ≡ xor (place == other) (has_place places.old.items other)) }
+    ensures toggled { OnOk result (IsToggled places.old.items place places.new.items) }
 {
     let Some(last) = places.pop() else {
         places.push(place)?;
@@ -50,7 +57,8 @@ fn toggle(places: &mut Vec<usize>, place: usize) -> Result<(), NoMemory>
 fn odd_ones(alloc: Global, sorted: &[usize]) -> Result<Vec<usize>, NoMemory>
     requires { IsSorted nat_cmp sorted.now }
     ensures ascending { IfOk result (λ odd. AscendFrom 0 odd.items) }
-    ensures odd { IfOk result (λ odd. (place : ℕ) → has_place odd.items place ≡ is_odd sorted.now place) }
+    ensures odd { IfOk result
+        (λ odd. (place : ℕ) → has_place odd.items place ≡ is_odd sorted.now place) }
 {
     let mut odd = Vec::with_capacity(alloc, sorted.len())?;
     for place in sorted {
@@ -60,11 +68,14 @@ fn odd_ones(alloc: Global, sorted: &[usize]) -> Result<Vec<usize>, NoMemory>
 }
 
 impl<'a, T: Element> ActivePlaces<'a, T> {
-    /// Goes on to `x`, which must not be below what was entered before. Takes O(n + m log m) time and O(n + m) memory
-    /// for n places and m bounds that are passed. After `NoMemory` everything is as before.
+    /// Goes on to `x`, which must not be below what was entered before. Takes O(n + m log m) time
+    /// and O(n + m) memory for n places and m bounds that are passed. After `NoMemory` everything
+    /// is as before.
     pub fn enter(&mut self, alloc: Global, x: T) -> Result<(), NoMemory>
-        ensures goes_on { OnOk result ((ranges : List (ℤ × ℤ)) (n : ℤ) → AreActive T.numbers.greatest ranges (T.numbers.number x) self.old → T.numbers.number x ≤ℤ n → AreActive T.numbers.greatest ranges n self.new) }
-        ensures entered { OnOk result ((ranges : List (ℤ × ℤ)) → AreActive T.numbers.greatest ranges (T.numbers.number x) self.old → self.new.places ≡ places_at ranges (T.numbers.number x)) }
+        ensures goes_on { OnOk result (StaysActive T.numbers.greatest (T.numbers.number x)
+            self.old self.new) }
+        ensures entered { OnOk result (ArePlacesAt T.numbers.greatest (T.numbers.number x)
+            self.old self.new.places) }
         ensures unchanged { OnErr result (self.new ≡ self.old) }
     {
         x.in_type();
@@ -78,8 +89,8 @@ impl<'a, T: Element> ActivePlaces<'a, T> {
             all.push(bound.place)?;
             rest = behind;
         }
-        // A place that was active and one of whose bounds was passed stands there twice. The sort takes one pass where
-        // few bounds were passed.
+        // A place that was active and one of whose bounds was passed stands there twice. The sort
+        // takes one pass where few bounds were passed.
         all.sort()?;
         self.places = odd_ones(alloc, all.as_slice())?;
         self.rest = rest;

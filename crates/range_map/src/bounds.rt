@@ -1,5 +1,6 @@
 //! Where several ranges begin and end, and which of them hold a number, as it ascends.
-ghost use Rattle.std.specs.Prelude.{◌≡◌, ℕ, ◌==◌, ℤ, ◌≤ℤ◌, List, [], ◌∷◌, ◌++◌, map, IfOk, IfSome, IfNone, OnOk, OnErr};
+ghost use Rattle.std.specs.Prelude.{◌≡◌, ℕ, ◌==◌, ℤ, ◌≤ℤ◌, List, [], ◌∷◌};
+ghost use Rattle.std.specs.Prelude.{◌++◌, map, IfOk, IfSome, IfNone, OnOk, OnErr};
 ghost use Rattle.std.specs.List.{All};
 ghost use Rattle.std.specs.List.Sorted.{IsStrictlySortedBy};
 ghost use Rattle.std.specs.Ordering.{nat_cmp};
@@ -7,7 +8,9 @@ ghost use Rattle.range_map.specs.Range.{in_numbers};
 ghost use Rattle.range_map.specs.Valued.{pairs_in_numbers};
 ghost use Rattle.range_map.specs.Sweep.{DoNotFallFrom, numbers_of};
 ghost use Rattle.number_line.specs.Ranges.{xor};
-ghost use Rattle.range_map.specs.Bounds.{ranges_of, places_at, bounds_in_numbers, AreBounds, AreBoundsPushed, has_place, AreActive};
+ghost use Rattle.range_map.specs.Bounds.{ranges_of, bounds_in_numbers, AreBounds};
+ghost use Rattle.range_map.specs.Bounds.{AreBoundsPushed, IsToggled, StartsActive};
+ghost use Rattle.range_map.specs.Bounds.{StaysActive, ArePlacesAt};
 
 use crate::active::ActivePlaces;
 use crate::range::Range;
@@ -17,13 +20,16 @@ use std::collections::BTreeSet;
 use std::marker::Model;
 
 /// The value at which the range at `place` begins, or the value behind its end.
+// Public because the models of the types below name it.
+#[doc(hidden)]
 #[derive(Clone, Copy, Debug)]
 pub struct Bound<T: Element> {
     pub(crate) at: T,
     pub(crate) place: usize,
 }
 
-/// Where several ranges begin and end, ascending. Ranges are known by their places, which count from 0.
+/// Where several ranges begin and end, ascending. Ranges are known by their places, which count
+/// from 0.
 #[derive(Debug, Drop)]
 pub struct Bounds<T: Element> {
     bounds: Vec<Bound<T>>,
@@ -38,7 +44,8 @@ impl<T: Element> Model for Bounds<T> {
 
     ghost view = { λ all. bounds_in_numbers T.numbers all.bounds.items };
 
-    ghost invariant = { λ all. DoNotFallFrom T.numbers T.numbers.least (map (λ bound. bound.at) all.bounds.items) };
+    ghost invariant = { λ all. DoNotFallFrom T.numbers T.numbers.least
+        (map (λ bound. bound.at) all.bounds.items) };
 }
 
 /// Puts the bounds of `range` behind the others. An end at the greatest value has none.
@@ -49,7 +56,9 @@ fn push_bounds<T: Element>(
 ) -> Result<(), NoMemory>
     requires { All (λ bound. T.numbers.IsValue bound.at) bounds.old.items }
     ensures values { OnOk result (All (λ bound. T.numbers.IsValue bound.at) bounds.new.items) }
-    ensures pushed { OnOk result (AreBoundsPushed T.numbers.greatest (bounds_in_numbers T.numbers bounds.old.items) (in_numbers T.numbers range.now) place (bounds_in_numbers T.numbers bounds.new.items)) }
+    ensures pushed { OnOk result (AreBoundsPushed T.numbers.greatest
+        (bounds_in_numbers T.numbers bounds.old.items) (in_numbers T.numbers range.now) place
+        (bounds_in_numbers T.numbers bounds.new.items)) }
 {
     bounds.push(Bound {
         at: range.start(),
@@ -67,7 +76,8 @@ fn push_bounds<T: Element>(
 impl<T: Element> Bounds<T> {
     /// The bounds of the ranges of `pairs`. Takes O(n log n) time for n pairs.
     pub fn new<V>(alloc: Global, pairs: &[(Range<T>, V)]) -> Result<Self, NoMemory>
-        ensures { IfOk result (AreBounds T.numbers.greatest (ranges_of (pairs_in_numbers T.numbers pairs.now))) }
+        ensures { IfOk result
+            (AreBounds T.numbers.greatest (ranges_of (pairs_in_numbers T.numbers pairs.now))) }
     {
         let mut bounds = Vec::with_capacity(alloc, pairs.len().saturating_mul(2))?;
         for (place, pair) in pairs.iter().enumerate() {
@@ -77,11 +87,13 @@ impl<T: Element> Bounds<T> {
         Ok(Bounds { bounds })
     }
 
-    /// The values at which ranges begin or have just ended, ascending, each as often as it does. Takes O(n) time for
-    /// n bounds.
+    /// The values at which ranges begin or have just ended, ascending, each as often as it does.
+    /// Takes O(n) time for n bounds.
     pub fn cuts(&self, alloc: Global) -> Result<Vec<T>, NoMemory>
-        ensures cuts { IfOk result (λ cuts. numbers_of T.numbers cuts.items ≡ map (λ bound. bound.0) self.now) }
-        ensures in_order { IfOk result (λ cuts. DoNotFallFrom T.numbers T.numbers.least cuts.items) }
+        ensures cuts { IfOk result
+            (λ cuts. numbers_of T.numbers cuts.items ≡ map (λ bound. bound.0) self.now) }
+        ensures in_order { IfOk result
+            (λ cuts. DoNotFallFrom T.numbers T.numbers.least cuts.items) }
     {
         let mut cuts = Vec::with_capacity(alloc, self.bounds.len())?;
         for bound in &self.bounds {
@@ -90,9 +102,10 @@ impl<T: Element> Bounds<T> {
         Ok(cuts)
     }
 
-    /// The places of the ranges that hold a number, before the least one. Takes O(1) time and no memory.
+    /// The places of the ranges that hold a number, before the least one. Takes O(1) time and no
+    /// memory.
     pub fn active(&self, alloc: Global) -> ActivePlaces<'_, T>
-        ensures { (ranges : List (ℤ × ℤ)) (n : ℤ) → AreBounds T.numbers.greatest ranges self.now → AreActive T.numbers.greatest ranges n result }
+        ensures { StartsActive T.numbers.greatest self.now result }
     {
         ActivePlaces {
             places: Vec::new(alloc),
@@ -100,9 +113,10 @@ impl<T: Element> Bounds<T> {
         }
     }
 
-    /// The greatest place of the ranges that hold a number, before the least one. Takes O(1) time and no memory.
+    /// The greatest place of the ranges that hold a number, before the least one. Takes O(1) time
+    /// and no memory.
     pub fn last_place(&self, alloc: Global) -> LastPlace<'_, T>
-        ensures { (ranges : List (ℤ × ℤ)) (n : ℤ) → AreBounds T.numbers.greatest ranges self.now → AreActive T.numbers.greatest ranges n result }
+        ensures { StartsActive T.numbers.greatest self.now result }
     {
         LastPlace {
             places: BTreeSet::new(alloc),
@@ -127,15 +141,20 @@ impl<'a, T: Element> Model for LastPlace<'a, T> {
 
     ghost Value = { Active };
 
-    ghost view = { λ active. record { places = active.places.keys; rest = bounds_in_numbers T.numbers active.rest.now } };
+    ghost view = { λ active. record {
+      places = active.places.keys;
+      rest = bounds_in_numbers T.numbers active.rest.now;
+    } };
 
-    ghost invariant = { λ active. (DoNotFallFrom T.numbers T.numbers.least (map (λ bound. bound.at) active.rest.now)) × IsStrictlySortedBy nat_cmp active.places.keys };
+    ghost invariant = { λ active.
+        DoNotFallFrom T.numbers T.numbers.least (map (λ bound. bound.at) active.rest.now)
+        × IsStrictlySortedBy nat_cmp active.places.keys };
 }
 
 /// Takes the place out of the set where it is there, and else puts it in.
 fn cross(places: &mut BTreeSet<usize>, place: usize) -> Result<(), NoMemory>
     ensures ascending { IsStrictlySortedBy nat_cmp places.new.keys }
-    ensures crossed { OnOk result ((other : ℕ) → has_place places.new.keys other ≡ xor (place == other) (has_place places.old.keys other)) }
+    ensures crossed { OnOk result (IsToggled places.old.keys place places.new.keys) }
     ensures unchanged { OnErr result (places.new.keys ≡ places.old.keys) }
 {
     if places.remove(&place) {
@@ -146,11 +165,13 @@ fn cross(places: &mut BTreeSet<usize>, place: usize) -> Result<(), NoMemory>
 }
 
 impl<'a, T: Element> LastPlace<'a, T> {
-    /// Goes on to `x`, which must not be below what was entered before. Takes O(log n) time for each bound that is
-    /// passed, of n pairs. After `NoMemory` the same value, or a greater one, may be entered still.
+    /// Goes on to `x`, which must not be below what was entered before. Takes O(log n) time for
+    /// each bound that is passed, of n pairs. After `NoMemory` the same value, or a greater one,
+    /// may be entered still.
     pub fn enter(&mut self, x: T) -> Result<(), NoMemory>
-        ensures goes_on { (ranges : List (ℤ × ℤ)) (n : ℤ) → AreActive T.numbers.greatest ranges (T.numbers.number x) self.old → T.numbers.number x ≤ℤ n → AreActive T.numbers.greatest ranges n self.new }
-        ensures entered { OnOk result ((ranges : List (ℤ × ℤ)) → AreActive T.numbers.greatest ranges (T.numbers.number x) self.old → self.new.places ≡ places_at ranges (T.numbers.number x)) }
+        ensures goes_on { StaysActive T.numbers.greatest (T.numbers.number x) self.old self.new }
+        ensures entered { OnOk result (ArePlacesAt T.numbers.greatest (T.numbers.number x)
+            self.old self.new.places) }
     {
         x.in_type();
         while let Some((bound, behind)) = self.rest.split_first() {
@@ -163,9 +184,11 @@ impl<'a, T: Element> LastPlace<'a, T> {
         Ok(())
     }
 
-    /// The greatest of the places, or `None` where there is none. Takes O(log n) time and no memory.
+    /// The greatest of the places, or `None` where there is none. Takes O(log n) time and no
+    /// memory.
     pub fn last(&self) -> Option<usize>
-        ensures last { IfSome result (λ place. (front : List ℕ) × (self.now.places ≡ front ++ place ∷ [])) }
+        ensures last { IfSome result
+            (λ place. (front : List ℕ) × (self.now.places ≡ front ++ place ∷ [])) }
         ensures none { IfNone result (self.now.places ≡ []) }
     {
         self.places.last().copied()

@@ -9,7 +9,8 @@ use element_core::Element;
 use std::alloc::AllocError;
 use std::marker::Model;
 
-/// The ranges of a set, ascending, seen as the list of those still to come, each by the numbers of its two ends.
+/// The ranges of a set, ascending, seen as the list of those still to come, each by the numbers of
+/// its two ends.
 ///
 /// Each call takes O(1) time and no memory.
 #[derive(Debug, Drop)]

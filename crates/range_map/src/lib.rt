@@ -1,5 +1,5 @@
-//! Inclusive ranges of a numbered type, sets of its values kept as ranges, and maps from them kept as ranges with a
-//! value each.
+//! Inclusive ranges of a numbered type, sets of its values kept as ranges, and maps from them kept
+//! as ranges with a value each.
 #![tactic(auto)]
 
 mod active;

@@ -11,11 +11,11 @@ use std::alloc::Global;
 use std::marker::Model;
 use std::slice::Iter;
 
-/// A map from keys of the type `T` to values, kept as ascending ranges of keys with a value each. No two ranges
-/// overlap, and ranges that touch have different values.
+/// A map from keys of the type `T` to values, kept as ascending ranges of keys with a value each.
+/// No two ranges overlap, and ranges that touch have different values.
 ///
-/// Contracts see a map as the list of its ranges in numbers with their values, and `value_at` says which value a
-/// key has. Two maps with equal values at each key are equal.
+/// Contracts see a map as the list of its ranges in numbers with their values, and `value_at` says
+/// which value a key has. Two maps with equal values at each key are equal.
 #[derive(Debug, Drop)]
 pub struct RangeMap<T: Element, V: Eq> {
     pub(crate) pairs: Vec<(Range<T>, V)>,
@@ -95,7 +95,8 @@ impl<T: Element, V: Eq> RangeMap<T, V> {
         self.pairs.iter()
     }
 
-    /// The value at the key `x`, or `None` where it has none. Takes O(log n) time for n ranges, and no memory.
+    /// The value at the key `x`, or `None` where it has none. Takes O(log n) time for n ranges, and
+    /// no memory.
     pub fn get(&self, x: T) -> Option<&V>
         ensures { option_copied result ≡ value_at self.now (T.numbers.number x) }
     {

@@ -1,11 +1,13 @@
 //! Two lists of ranges read together, and a set made from its first range on.
-ghost use Rattle.std.specs.Prelude.{◌≡◌, ℤ, pos, ◌+◌, ◌<◌, ◌≤ℤ◌, ◌+ℤ◌, ◌&&◌, true, [], ◌∷◌, ◌++◌, length};
+ghost use Rattle.std.specs.Prelude.{◌≡◌, ℤ, pos, ◌+◌, ◌<◌, ◌≤ℤ◌, ◌+ℤ◌};
+ghost use Rattle.std.specs.Prelude.{◌&&◌, true, [], ◌∷◌, ◌++◌, length};
 ghost use Rattle.std.specs.Prelude.{IfOk, OnOk, IfSome, IfNone, vec_len, vec_capacity};
 ghost use Rattle.std.specs.Bool.{MatchBool};
 ghost use Rattle.number_line.specs.Ranges.{lies_in};
 ghost use Rattle.range_map.specs.Range.{in_numbers};
 ghost use Rattle.range_map.specs.Set.{all_in_numbers, AreRanges, IsSet};
-ghost use Rattle.range_map.specs.Merging.{BeginBy, EndApart, IsTaken, IsJoined, IsGapPushed, IsCommonPushed};
+ghost use Rattle.range_map.specs.Merging.{BeginBy, EndApart, IsTaken};
+ghost use Rattle.range_map.specs.Merging.{IsJoined, IsGapPushed, IsCommonPushed};
 
 use crate::range::Range;
 use crate::set::RangeSet;
@@ -20,15 +22,16 @@ pub(crate) struct Taken<'a, T: Element> {
     pub(crate) right: &'a [Range<T>],
 }
 
-/// Takes the range that begins first; the left one, where both first ranges begin with one value. `None` where
-/// both lists are empty.
+/// Takes the range that begins first; the left one, where both first ranges begin with one value.
+/// `None` where both lists are empty.
 pub(crate) fn take_first<'a, T: Element>(
     left: &'a [Range<T>],
     right: &'a [Range<T>],
 ) -> Option<Taken<'a, T>>
     ensures none { IfNone result ((left.now ≡ []) × (right.now ≡ [])) }
     ensures taken { IfSome result (λ t. IsTaken T.numbers.greatest
-        (all_in_numbers T.numbers left.now) (all_in_numbers T.numbers right.now) (in_numbers T.numbers t.next)
+        (all_in_numbers T.numbers left.now) (all_in_numbers T.numbers right.now)
+        (in_numbers T.numbers t.next)
         (all_in_numbers T.numbers t.left.now) (all_in_numbers T.numbers t.right.now)) }
     ensures fewer { IfSome result (λ t.
         length t.left.now + length t.right.now < length left.now + length right.now) }
@@ -77,14 +80,16 @@ fn joins<T: Element>(last: &Range<T>, next: &Range<T>) -> bool
     }
 }
 
-/// Puts `range` behind the ranges of a set, none of which begins later and for which there is room, as one with the last
-/// of them where the two overlap or touch.
+/// Puts `range` behind the ranges of a set, none of which begins later and for which there is room,
+/// as one with the last of them where the two overlap or touch.
 fn join_last<T: Element>(list: &mut Vec<Range<T>>, range: Range<T>)
     requires set { IsSet T.numbers list.old.items }
-    requires begin_by { BeginBy (T.numbers.number range.0) (all_in_numbers T.numbers list.old.items) }
+    requires begin_by { BeginBy (T.numbers.number range.0)
+        (all_in_numbers T.numbers list.old.items) }
     requires room { vec_len list.old < vec_capacity list.old }
     ensures are_ranges { AreRanges T.numbers list.new.items }
-    ensures joined { IsJoined T.numbers.least T.numbers.greatest (all_in_numbers T.numbers list.old.items)
+    ensures joined { IsJoined T.numbers.least T.numbers.greatest
+        (all_in_numbers T.numbers list.old.items)
         (in_numbers T.numbers range) (all_in_numbers T.numbers list.new.items) }
 {
     // These two tell that the range lies within the type.
@@ -112,8 +117,8 @@ impl<T: Element> RangeSet<T> {
         Ok(RangeSet { ranges })
     }
 
-    /// Puts `range` behind the others, none of which begins later, as one with the last of them where the two overlap or
-    /// touch.
+    /// Puts `range` behind the others, none of which begins later, as one with the last of them
+    /// where the two overlap or touch.
     pub(crate) fn push_joined(&mut self, range: Range<T>) -> Result<(), NoMemory>
         requires { BeginBy (T.numbers.number range.0) self.old }
         ensures { OnOk result (IsJoined T.numbers.least T.numbers.greatest self.old
@@ -154,8 +159,8 @@ impl<T: Element> RangeSet<T> {
 
     /// Puts the values in both ranges behind the others, if there are any.
     pub(crate) fn push_common(&mut self, left: &Range<T>, right: &Range<T>) -> Result<(), NoMemory>
-        requires { (x : ℤ) → (lies_in (in_numbers T.numbers left.now) x && lies_in (in_numbers T.numbers right.now) x) ≡ true
-            → EndApart x self.old }
+        requires { (x : ℤ) → (lies_in (in_numbers T.numbers left.now) x
+            && lies_in (in_numbers T.numbers right.now) x) ≡ true → EndApart x self.old }
         ensures { OnOk result (IsCommonPushed self.old (in_numbers T.numbers left.now)
             (in_numbers T.numbers right.now) self.new) }
     {

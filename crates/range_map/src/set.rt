@@ -1,5 +1,6 @@
 //! Sets of values, each kept as its ranges.
-ghost use Rattle.std.specs.Prelude.{◌≡◌, ℤ, ◌≤ℤ◌, ◌&&◌, ◌||◌, not, [], ◌∷◌, length, IfOk, IsTrue, ◌↔◌};
+ghost use Rattle.std.specs.Prelude.{◌≡◌, ℤ, ◌≤ℤ◌, ◌&&◌, ◌||◌, not};
+ghost use Rattle.std.specs.Prelude.{[], ◌∷◌, length, IfOk, IsTrue, ◌↔◌};
 ghost use Rattle.number_line.specs.Ranges.{holds, IsCanonical};
 ghost use Rattle.range_map.specs.Range.{in_numbers};
 
@@ -11,11 +12,12 @@ use std::alloc::Global;
 use std::hash::{Hash, Hasher};
 use std::marker::Model;
 
-/// A set of values, kept as the fewest ranges that hold them, ascending: each begins two or more past the end of
-/// the one before it.
+/// A set of values, kept as the fewest ranges that hold them, ascending: each begins two or more
+/// past the end of the one before it.
 ///
-/// Contracts see a set as the list of its ranges in numbers. Two sets with the same members are equal. Where memory
-/// is short, a call that makes a set answers `NoMemory`, and the sets that it read stay as they were.
+/// Contracts see a set as the list of its ranges in numbers. Two sets with the same members are
+/// equal. Where memory is short, a call that makes a set answers `NoMemory`, and the sets that it
+/// read stay as they were.
 #[derive(Debug, Drop)]
 pub struct RangeSet<T: Element> {
     pub(crate) ranges: Vec<Range<T>>,
@@ -104,10 +106,12 @@ impl<T: Element> RangeSet<T> {
             .is_ok()
     }
 
-    /// The set of the values that are members of either set. Takes O(n + m) time for n and m ranges.
+    /// The set of the values that are members of either set. Takes O(n + m) time for n and m
+    /// ranges.
     pub fn union(&self, alloc: Global, other: &Self) -> Result<Self, NoMemory>
         ensures canonical { IfOk result (IsCanonical T.numbers.least T.numbers.greatest) }
-        ensures members { IfOk result (λ set. (x : ℤ) → holds set x ≡ (holds self.now x || holds other.now x)) }
+        ensures members { IfOk result
+            (λ set. (x : ℤ) → holds set x ≡ (holds self.now x || holds other.now x)) }
     {
         let mut left = self.ranges.as_slice();
         let mut right = other.ranges.as_slice();
@@ -123,7 +127,8 @@ impl<T: Element> RangeSet<T> {
     /// The set of the values that are members of both sets. Takes O(n + m) time for n and m ranges.
     pub fn intersection(&self, alloc: Global, other: &Self) -> Result<Self, NoMemory>
         ensures canonical { IfOk result (IsCanonical T.numbers.least T.numbers.greatest) }
-        ensures members { IfOk result (λ set. (x : ℤ) → holds set x ≡ (holds self.now x && holds other.now x)) }
+        ensures members { IfOk result
+            (λ set. (x : ℤ) → holds set x ≡ (holds self.now x && holds other.now x)) }
     {
         let mut left = self.ranges.as_slice();
         let mut right = other.ranges.as_slice();
@@ -142,10 +147,12 @@ impl<T: Element> RangeSet<T> {
         Ok(set)
     }
 
-    /// The set of the values that aren't members, the two ends of the type included. Takes O(n) time for n ranges.
+    /// The set of the values that aren't members, the two ends of the type included. Takes O(n)
+    /// time for n ranges.
     pub fn negated(&self, alloc: Global) -> Result<Self, NoMemory>
         ensures canonical { IfOk result (IsCanonical T.numbers.least T.numbers.greatest) }
-        ensures members { IfOk result (λ set. (x : ℤ) → T.numbers.least ≤ℤ x → x ≤ℤ T.numbers.greatest
+        ensures members { IfOk result
+            (λ set. (x : ℤ) → T.numbers.least ≤ℤ x → x ≤ℤ T.numbers.greatest
             → holds set x ≡ not (holds self.now x)) }
     {
         let mut set = RangeSet::with_capacity(alloc, self.ranges.len().saturating_add(1))?;
@@ -198,7 +205,8 @@ impl<T: Element + Hash> Hash for RangeSet<T> {
 
     ghost hash_input = { ranges_fed T.numbers T.hash_input };
 
-    ghost respects_eq = { λ x y equal. ap (ranges_fed T.numbers T.hash_input) ((same_ranges_decides x y).0 equal) };
+    ghost respects_eq = { λ x y equal. ap (ranges_fed T.numbers T.hash_input)
+        ((same_ranges_decides x y).0 equal) };
 
     fn hash<H: Hasher>(&self, state: &mut H) {
         self.ranges.hash(state);
