@@ -3,7 +3,7 @@ use Rattle.std.specs.Prelude.{◌<◌, ◌≤◌, ◌≡◌, ℕ, suc, ◌==◌,
 use Rattle.std.specs.List.{list_any}
 use Rattle.element_core.specs.Numbering.{Numbering}
 use Rattle.number_line.specs.Ranges.{lies_in, xor}
-use Rattle.range_map.specs.declared.bounds.Bound.{Bound}
+use Rattle.range_map.specs.declared.sweep.bounds.Bound.{Bound}
 
 -- the ranges of pairs
 abbrev pub ranges_of : {V : Type 0} → List ((ℤ × ℤ) × V) → List (ℤ × ℤ)

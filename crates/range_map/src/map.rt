@@ -5,6 +5,15 @@ ghost use Rattle.std.specs.Slice.Iter.{iter_rest};
 ghost use Rattle.number_line.specs.Valued.{value_at, IsCanonicalMap};
 ghost use Rattle.range_map.specs.Valued.{pairs_in_numbers, IsMap};
 
+mod compared;
+mod error;
+mod from_iter;
+mod growing;
+
+pub use error::{OverlapError, TryFromIterError};
+#[doc(hidden)]
+pub use growing::MapBuilder;
+
 use crate::range::Range;
 use element_core::{Element, NoMemory};
 use std::alloc::Global;

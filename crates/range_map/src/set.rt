@@ -4,9 +4,14 @@ ghost use Rattle.std.specs.Prelude.{[], ◌∷◌, length, IfOk, IsTrue, ◌↔�
 ghost use Rattle.number_line.specs.Ranges.{holds, IsCanonical};
 ghost use Rattle.range_map.specs.Range.{in_numbers};
 
-use crate::iter::RangeIter;
-use crate::merging::take_first;
+mod from_iter;
+mod iter;
+mod merging;
+
+pub use iter::RangeIter;
+
 use crate::range::Range;
+use merging::take_first;
 use element_core::{Element, NoMemory, is_below};
 use std::alloc::Global;
 use std::hash::{Hash, Hasher};
