@@ -1,5 +1,3 @@
-use Rattle.std.proofs.Common.{arith}
-use Rattle.std.proofs.lemmas.Int.{ints}
 use Rattle.std.proofs.lemmas.List.{map_push}
 use Rattle.range_map.specs.Range.{in_numbers}
 use Rattle.range_map.proofs.CanonicalLemmas.{canonical-push, ends_by, ranges-push}
