@@ -2,14 +2,13 @@
 ghost use Rattle.std.specs.Prelude.{◌≡◌, ℤ, ◌∷◌, [], IfOk, is_some, true};
 ghost use Rattle.number_line.specs.Pieces.{IsJoined};
 ghost use Rattle.number_line.specs.Valued.{value_at, IsCanonicalMap, same_list};
-ghost use Rattle.range_map.specs.Valued.{pairs_in_numbers, IsMap, AreValuedRanges};
+ghost use Rattle.range_map.specs.Valued.{pairs_in_numbers, IsMap, AreValuedRanges, ClonesAreEqual};
 ghost use Rattle.blaze_joins.specs.Cloned.{ArePairClones};
 ghost use Rattle.blaze_joins.specs.Joins.{CalledAtValue};
 
 use crate::map::RangeMapBlaze;
 use element_core::{Element, NoMemory};
-use range_map::Range;
-use range_map::sweep::push_value_reserved;
+use range_map::{MapBuilder, Range, RangeMap};
 use std::alloc::Global;
 
 /// The same ranges with clones of the values, in their order.
@@ -18,7 +17,8 @@ fn clones_of_pairs<T: Element, V: Eq + Clone + Drop>(
     pairs: &[(Range<T>, V)],
 ) -> Result<Vec<(Range<T>, V)>, NoMemory>
     ensures are_ranges { IfOk result (λ copy. AreValuedRanges T.numbers copy.items) }
-    ensures clones { IfOk result (λ copy. ArePairClones V.is_clone (pairs_in_numbers T.numbers pairs.now)
+    ensures clones { IfOk result
+        (λ copy. ArePairClones V.is_clone (pairs_in_numbers T.numbers pairs.now)
         (pairs_in_numbers T.numbers copy.items)) }
 {
     let mut copy = Vec::with_capacity(alloc, pairs.len())?;
@@ -37,14 +37,15 @@ impl<T: Element, V: Eq> RangeMapBlaze<T, V> {
         V: Drop,
         ensures { IfOk result (λ map. map ≡ ((T.numbers.least, T.numbers.greatest), value) ∷ []) }
     {
-        let mut pairs = Vec::with_capacity(alloc, 1)?;
-        push_value_reserved(&mut pairs, Range::full(), value);
-        Ok(RangeMapBlaze { pairs })
+        let mut map = RangeMap::new(alloc);
+        map.push(Range::full(), value)?;
+        Ok(RangeMapBlaze { map })
     }
 
-    /// The map of what `f` answers, called once for each range, in order, with its value. The keys are the same. Of
-    /// touching ranges with equal answers, which become one, the first answer stays. After `NoMemory` the function was
-    /// not called. Takes O(n) time for n ranges, beside the calls.
+    /// The map of what `f` answers, called once for each range, in order, with its value. The keys
+    /// are the same. Of touching ranges with equal answers, which become one, the first answer
+    /// stays. After `NoMemory` the function was not called. Takes O(n) time for n ranges, beside
+    /// the calls.
     pub fn transform_values<X: Eq + Drop, F: FnMut(&V) -> X + Drop>(
         &self,
         alloc: Global,
@@ -53,26 +54,33 @@ impl<T: Element, V: Eq> RangeMapBlaze<T, V> {
         requires { F.IsAlwaysCallable f }
         ensures canonical { IfOk result (IsCanonicalMap X.eq T.numbers.least T.numbers.greatest) }
         ensures joined { IfOk result (IsJoined (CalledAtValue F.FnMut) X.eq f self.now) }
-        ensures keys { IfOk result (λ map. (x : ℤ) → is_some (value_at map x) ≡ is_some (value_at self.now x)) }
+        ensures keys { IfOk result
+            (λ map. (x : ℤ) → is_some (value_at map x) ≡ is_some (value_at self.now x)) }
     {
-        let mut pairs = Vec::with_capacity(alloc, self.pairs.len())?;
-        for pair in &self.pairs {
+        let pairs = self.map.as_slice();
+        let mut made = MapBuilder::with_room(alloc, pairs.len())?;
+        for pair in pairs {
             let answer = f(&pair.1);
-            push_value_reserved(&mut pairs, pair.0, answer);
+            made.push(pair.0, answer);
         }
-        Ok(RangeMapBlaze { pairs })
+        Ok(RangeMapBlaze {
+            map: made.into_map(),
+        })
     }
 
-    /// A map equal to this one, with clones of its values. Takes O(n) time for n ranges, beside the clones.
+    /// A map equal to this one, with clones of its values. Takes O(n) time for n ranges, beside the
+    /// clones.
     pub fn try_clone(&self, alloc: Global) -> Result<Self, NoMemory>
     where
         V: Clone + Drop,
-        requires { (a b : V) → V.is_clone a b → V.eq b a ≡ true }
+        requires { ClonesAreEqual V.is_clone V.eq }
         ensures canonical { IfOk result (IsCanonicalMap V.eq T.numbers.least T.numbers.greatest) }
         ensures clones { IfOk result (ArePairClones V.is_clone self.now) }
         ensures equal { IfOk result (λ copy. same_list V.eq copy self.now ≡ true) }
     {
-        let pairs = clones_of_pairs(alloc, self.pairs.as_slice())?;
-        Ok(RangeMapBlaze { pairs })
+        let pairs = clones_of_pairs(alloc, self.map.as_slice())?;
+        Ok(RangeMapBlaze {
+            map: RangeMap::from_canonical(pairs),
+        })
     }
 }

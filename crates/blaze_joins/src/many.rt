@@ -1,18 +1,20 @@
-//! Joins of many maps: a function is called once for each piece of all of them, and its answers become a map.
-ghost use Rattle.std.specs.Prelude.{◌≡◌, ℤ, pos, ◌+ℤ◌, ◌≤ℤ◌, Some, IfOk, is_some, length, map, true};
+//! Joins of many maps: a function is called once for each piece of all of them, and its answers
+//! become a map.
+ghost use Rattle.std.specs.Prelude.{◌≡◌, ℤ, pos, ◌+ℤ◌, ◌≤ℤ◌, Some};
+ghost use Rattle.std.specs.Prelude.{IfOk, is_some, length, map, true};
 ghost use Rattle.std.specs.List.{AllZip, list_any, list_all};
 ghost use Rattle.number_line.specs.Pieces.{value_in, values_of_all, in_all};
 ghost use Rattle.number_line.specs.Valued.{IsCanonicalMap};
 ghost use Rattle.blaze_joins.specs.Filled.{IsOptionClone};
 ghost use Rattle.blaze_joins.specs.Joins.{IsFullJoinOfAll, IsInnerJoinOfAll};
 ghost use Rattle.blaze_joins.specs.PieceView.{at_place};
-ghost use Rattle.blaze_joins.specs.SideView.{IsPlace, IsSideOf, AreSidesOf, holders_in, least_of, ends_of};
+ghost use Rattle.blaze_joins.specs.SideView.{IsPlace, IsSideOf, AreSidesOf};
+ghost use Rattle.blaze_joins.specs.SideView.{holders_in, least_of, ends_of};
 
 use crate::map::RangeMapBlaze;
 use crate::pieces::{held_from, lesser, place_behind};
 use element_core::{Element, NoMemory};
-use range_map::Range;
-use range_map::sweep::push_value;
+use range_map::{Range, RangeMap};
 use std::alloc::Global;
 
 /// Where a walk stands in one map.
@@ -32,7 +34,7 @@ impl<T: Element, V: Eq> RangeMapBlaze<T, V> {
         requires { IsPlace T.numbers V.eq (T.numbers.number start) self.now at }
         ensures { IsSideOf T.numbers V.eq (T.numbers.number start) self.now result }
     {
-        let held = held_from(self.pairs.as_slice(), at, start);
+        let held = held_from(self.map.as_slice(), at, start);
         Side {
             at,
             place: held.place,
@@ -44,7 +46,7 @@ impl<T: Element, V: Eq> RangeMapBlaze<T, V> {
     fn first_side(&self) -> Side<T>
         ensures { IsSideOf T.numbers V.eq T.numbers.least self.now result }
     {
-        let held = held_from(self.pairs.as_slice(), 0, T::min_value());
+        let held = held_from(self.map.as_slice(), 0, T::min_value());
         Side {
             at: 0,
             place: held.place,
@@ -54,12 +56,13 @@ impl<T: Element, V: Eq> RangeMapBlaze<T, V> {
 
     /// What holds the key `next`, which comes behind the key `end`.
     fn side_behind(&self, side: Side<T>, end: T, next: T) -> Side<T>
-        requires side { (n : ℤ) × (n ≤ℤ T.numbers.number end) × IsSideOf T.numbers V.eq n self.now side }
+        requires side { (n : ℤ) × (n ≤ℤ T.numbers.number end) × IsSideOf T.numbers V.eq n self.now
+            side }
         requires end { T.numbers.number end ≤ℤ T.numbers.number side.end }
         requires next { T.numbers.number next ≡ T.numbers.number end +ℤ pos 1 }
         ensures { IsSideOf T.numbers V.eq (T.numbers.number next) self.now result }
     {
-        let at = place_behind(self.pairs.as_slice(), side.at, end);
+        let at = place_behind(self.map.as_slice(), side.at, end);
         self.side_from(at, next)
     }
 
@@ -71,7 +74,7 @@ impl<T: Element, V: Eq> RangeMapBlaze<T, V> {
     {
         match place {
             None => Ok(None),
-            Some(place) => match self.pairs.get(place) {
+            Some(place) => match self.map.as_slice().get(place) {
                 None => Ok(None),
                 Some(pair) => Ok(Some(pair.1.clone()?)),
             },
@@ -84,7 +87,8 @@ fn first_sides<T: Element, V: Eq>(
     alloc: Global,
     maps: &[RangeMapBlaze<T, V>],
 ) -> Result<Vec<Side<T>>, NoMemory>
-    ensures { IfOk result (λ sides. AreSidesOf T.numbers V.eq T.numbers.least maps.now sides.items) }
+    ensures { IfOk result
+        (λ sides. AreSidesOf T.numbers V.eq T.numbers.least maps.now sides.items) }
 {
     let mut sides = Vec::with_capacity(alloc, maps.len())?;
     for map in maps {
@@ -101,10 +105,13 @@ fn sides_behind<T: Element, V: Eq>(
     end: T,
     next: T,
 ) -> Result<Vec<Side<T>>, NoMemory>
-    requires sides { (n : ℤ) × (n ≤ℤ T.numbers.number end) × AreSidesOf T.numbers V.eq n maps.now sides.now }
-    requires end { T.numbers.number end ≤ℤ least_of T.numbers.greatest (ends_of T.numbers sides.now) }
+    requires sides { (n : ℤ) × (n ≤ℤ T.numbers.number end) × AreSidesOf T.numbers V.eq n maps.now
+        sides.now }
+    requires end { T.numbers.number end ≤ℤ least_of T.numbers.greatest
+        (ends_of T.numbers sides.now) }
     requires next { T.numbers.number next ≡ T.numbers.number end +ℤ pos 1 }
-    ensures { IfOk result (λ new. AreSidesOf T.numbers V.eq (T.numbers.number next) maps.now new.items) }
+    ensures { IfOk result
+        (λ new. AreSidesOf T.numbers V.eq (T.numbers.number next) maps.now new.items) }
 {
     let mut new = Vec::with_capacity(alloc, maps.len())?;
     for (i, map) in maps.iter().enumerate() {
@@ -116,7 +123,8 @@ fn sides_behind<T: Element, V: Eq>(
 /// The first key at which one of the sides ends, or the greatest key without any.
 fn first_end<T: Element>(sides: &[Side<T>]) -> T
     ensures is_value { T.numbers.IsValue result }
-    ensures least { T.numbers.number result ≡ least_of T.numbers.greatest (ends_of T.numbers sides.now) }
+    ensures least { T.numbers.number result ≡ least_of T.numbers.greatest
+        (ends_of T.numbers sides.now) }
 {
     let mut end = T::max_value();
     for side in sides {
@@ -178,11 +186,12 @@ fn each_holds<T: Element>(sides: &[Side<T>]) -> bool
     sides.iter().all(|side| side.place.is_some())
 }
 
-/// The map of what `f` answers, called once for each piece over the keys in any of the maps, in order, with a clone of
-/// each map's value there, or `None`, in the order of the maps. A piece is a range of keys on which what holds them, in
-/// each map, stays the same. Of touching pieces with equal answers the first answer stays. Without maps `f` isn't
-/// called, and no key has a value. After `NoMemory` the function was called at the first pieces, or at none. Takes
-/// O(k) time a piece for k maps, beside the call and the clones, and O(k) memory beside the answer.
+/// The map of what `f` answers, called once for each piece over the keys in any of the maps, in
+/// order, with a clone of each map's value there, or `None`, in the order of the maps. A piece is a
+/// range of keys on which what holds them, in each map, stays the same. Of touching pieces with
+/// equal answers the first answer stays. Without maps `f` isn't called, and no key has a value.
+/// After `NoMemory` the function was called at the first pieces, or at none. Takes O(k) time a
+/// piece for k maps, beside the call and the clones, and O(k) memory beside the answer.
 pub fn full_join_all<
     T: Element,
     V: Eq + Clone + Drop,
@@ -193,7 +202,7 @@ pub fn full_join_all<
     ensures canonical { IfOk result (IsCanonicalMap X.eq T.numbers.least T.numbers.greatest) }
     ensures joined { IfOk result (IsFullJoinOfAll T.numbers V.is_clone F.FnMut X.eq maps.now f) }
 {
-    let mut pairs = Vec::new(alloc);
+    let mut map = RangeMap::new(alloc);
     let mut start = T::min_value();
     let mut sides = first_sides(alloc, maps)?;
     loop {
@@ -201,18 +210,20 @@ pub fn full_join_all<
         if one_holds(sides.as_slice()) {
             let values = values_of_each(alloc, maps, sides.as_slice())?;
             let answer = f(values.as_slice());
-            push_value(&mut pairs, Range::new(start, end), answer)?;
+            map.push(Range::new(start, end), answer)?;
         }
         let Some(next) = end.successor() else {
-            return Ok(RangeMapBlaze { pairs });
+            // This tells that the ranges are canonical.
+            map.as_slice();
+            return Ok(RangeMapBlaze { map });
         };
         sides = sides_behind(alloc, maps, sides.as_slice(), end, next)?;
         start = next;
     }
 }
 
-/// The same over the keys in all maps, each of whose values is handed over. Without maps `f` is called once, with no
-/// value, and every key has its answer.
+/// The same over the keys in all maps, each of whose values is handed over. Without maps `f` is
+/// called once, with no value, and every key has its answer.
 pub fn inner_join_all<T: Element, V: Eq + Clone + Drop, X: Eq + Drop, F: FnMut(&[V]) -> X + Drop>(
     alloc: Global,
     maps: &[RangeMapBlaze<T, V>],
@@ -222,7 +233,7 @@ pub fn inner_join_all<T: Element, V: Eq + Clone + Drop, X: Eq + Drop, F: FnMut(&
     ensures canonical { IfOk result (IsCanonicalMap X.eq T.numbers.least T.numbers.greatest) }
     ensures joined { IfOk result (IsInnerJoinOfAll T.numbers V.is_clone F.FnMut X.eq maps.now f) }
 {
-    let mut pairs = Vec::new(alloc);
+    let mut map = RangeMap::new(alloc);
     let mut start = T::min_value();
     let mut sides = first_sides(alloc, maps)?;
     loop {
@@ -230,10 +241,12 @@ pub fn inner_join_all<T: Element, V: Eq + Clone + Drop, X: Eq + Drop, F: FnMut(&
         if each_holds(sides.as_slice()) {
             let values = present_values(alloc, maps, sides.as_slice())?;
             let answer = f(values.as_slice());
-            push_value(&mut pairs, Range::new(start, end), answer)?;
+            map.push(Range::new(start, end), answer)?;
         }
         let Some(next) = end.successor() else {
-            return Ok(RangeMapBlaze { pairs });
+            // This tells that the ranges are canonical.
+            map.as_slice();
+            return Ok(RangeMapBlaze { map });
         };
         sides = sides_behind(alloc, maps, sides.as_slice(), end, next)?;
         start = next;

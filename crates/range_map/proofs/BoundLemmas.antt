@@ -17,7 +17,7 @@ use Rattle.std.proofs.lemmas.List.Sorted.{sum_by-IsPermutation, IsPermutation-ma
 use Rattle.std.specs.declared.cmp.Ordering.{Ordering}
 use Rattle.element_core.specs.Numbering.{Numbering, IsNumbering}
 use Rattle.number_line.specs.Ranges.{lies_in, xor}
-use Rattle.range_map.specs.declared.bounds.Bound.{Bound}
+use Rattle.range_map.specs.declared.sweep.bounds.Bound.{Bound}
 use Rattle.range_map.specs.Range.{in_numbers}
 use Rattle.range_map.specs.Sweep.{DoNotFallFrom, is_cut, ChangesAtCuts}
 use Rattle.range_map.specs.Bounds.{lies_at_from, lies_at, places_from, places_at, bound_in_numbers, bounds_in_numbers, is_passed, crossed, AreBounds, AreBoundsPushed, has_place, AscendFrom, AreActive}

@@ -7,7 +7,7 @@ use Rattle.number_line.specs.Ranges.{lies_in, holds, IsCanonical}
 use Rattle.element_core.specs.Numbering.{Numbering}
 use Rattle.range_map.specs.Range.{IsRange}
 use Rattle.range_map.specs.Set.{AreRanges}
-use Rattle.range_map.specs.Merging.{BeginBy}
+use Rattle.range_map.specs.Merging.{BeginBy, EndApart}
 
 -- an upper bound may be raised
 pub to_higher : (lo high hi : ℤ) (rs : List (ℤ × ℤ)) → high ≤ℤ hi → IsCanonical lo high rs → IsCanonical lo hi rs
@@ -33,6 +33,15 @@ pub canonical-push : (lo hi : ℤ) (rs : List (ℤ × ℤ)) (r : ℤ × ℤ)
 canonical-push lo hi [] r c p q h = (p, q, h, tt)
 canonical-push lo hi (s ∷ rest) r c p q h =
     (c.0, c.1, omega (arith, ints), canonical-push (s.1 +ℤ pos 2) hi rest r c.3 (omega (arith, ints)) q h)
+
+-- what lies within an end is apart from what begins two or more past it, and the other way round
+pub apart_from_end : (lo hi n : ℤ) (rs : List (ℤ × ℤ)) → IsCanonical lo hi rs → (hi +ℤ pos 2) ≤ℤ n → EndApart n rs
+apart_from_end lo hi n [] c h = tt
+apart_from_end lo hi n (r ∷ rest) c h = (omega (arith, ints), apart_from_end (r.1 +ℤ pos 2) hi n rest c.3 h)
+
+pub ends_by : (lo hi n : ℤ) (rs : List (ℤ × ℤ)) → IsCanonical lo hi rs → EndApart n rs → IsCanonical lo (n -ℤ pos 2) rs
+ends_by lo hi n [] c h = tt
+ends_by lo hi n (r ∷ rest) c h = (c.0, c.1, omega (arith, ints), ends_by (r.1 +ℤ pos 2) hi n rest c.3 h.1)
 
 pub canonical-pop : (lo hi : ℤ) (rs : List (ℤ × ℤ)) (r : ℤ × ℤ)
     → IsCanonical lo hi (rs ++ r ∷ []) → IsCanonical lo (r.0 -ℤ pos 2) rs × (lo ≤ℤ r.0) × (r.0 ≤ℤ r.1) × (r.1 ≤ℤ hi)

@@ -7,8 +7,8 @@ use Rattle.std.proofs.lemmas.Int.{ints, by_lt_z}
 use Rattle.std.proofs.Math.Bool.{or-false}
 use Rattle.number_line.specs.Ranges.{lies_in, holds, IsCanonical}
 use Rattle.number_line.proofs.RangeLemmas.{below_start, from_lower, first_holds}
-use Rattle.range_map.specs.Merging.{IsCommonPushed}
-use Rattle.range_map.proofs.CanonicalLemmas.{to_higher, holds-push, canonical-push}
+use Rattle.range_map.specs.Merging.{EndApart, IsCommonPushed}
+use Rattle.range_map.proofs.CanonicalLemmas.{to_higher, holds-push, canonical-push, apart_from_end}
 
 -- `out` holds what the lists `a` and `b` both held before `left` and `right`, which are left of them
 pub record IsCommon (lo hi : ℤ) (a b out left right : List (ℤ × ℤ)) : Type 0 where
@@ -194,6 +194,18 @@ module _ (lo hi : ℤ) (a b : List (ℤ × ℤ)) where
         canonical = rw e (pushed_canonical r f g h r.1 (omega (arith, ints)));
         past = λ x u. no_right (holds (p ∷ l) x) (holds k x) (let top : r.1 ≤ℤ q.1 = rw g (grind (arith, ints)) in right_after x (omega (arith, ints)));
       }
+
+-- what both first ranges hold lies apart from what was found before
+in_front : (p q b d : Bool) → (p && q) ≡ true → ((p || b) && (q || d)) ≡ true
+in_front true true b d h = refl
+in_front true false b d h = absurd (cc)
+in_front false q b d h = absurd (cc)
+
+pub common_apart : (lo hi : ℤ) (a b out left right l k : List (ℤ × ℤ)) (p q : ℤ × ℤ) → left ≡ p ∷ l → right ≡ q ∷ k → IsCommon lo hi a b out left right
+    → (x : ℤ) → (lies_in p x && lies_in q x) ≡ true → EndApart x out
+common_apart lo hi a b out left right l k p q left_is right_is c x h =
+    let yes : (holds left x && holds right x) ≡ true = rw (left_is, right_is) (in_front (lies_in p x) (lies_in q x) (holds l x) (holds k x) h) in
+    by_lt_z (c.top +ℤ pos 1) x (λ u. apart_from_end lo c.top x out c.canonical (omega (arith, ints))) (λ u. let no = c.past x u in absurd (cc))
 
 -- the same, where the lists are known to begin so
 module _ (lo hi : ℤ) (a b out new left right l k : List (ℤ × ℤ)) (p q : ℤ × ℤ) (left_is : left ≡ p ∷ l) (right_is : right ≡ q ∷ k)

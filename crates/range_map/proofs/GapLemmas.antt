@@ -5,12 +5,11 @@ use Rattle.std.proofs.lemmas.Int.{ints, by_lt_z}
 use Rattle.std.proofs.Math.Bool.{or-false}
 use Rattle.number_line.specs.Ranges.{lies_in, holds, IsCanonical}
 use Rattle.number_line.proofs.RangeLemmas.{below_start, from_lower, first_holds, rest_holds}
-use Rattle.std.proofs.lemmas.List.{map_push}
 use Rattle.element_core.specs.Numbering.{Numbering}
 use Rattle.range_map.specs.Range.{IsRange, in_numbers}
 use Rattle.range_map.specs.Set.{all_in_numbers}
-use Rattle.range_map.specs.Merging.{IsGapPushed}
-use Rattle.range_map.proofs.CanonicalLemmas.{to_higher, above_end, holds-push, canonical-push}
+use Rattle.range_map.specs.Merging.{EndApart, IsGapPushed}
+use Rattle.range_map.proofs.CanonicalLemmas.{to_higher, above_end, apart_from_end, holds-push, canonical-push}
 
 inside : (r : ℤ × ℤ) (x : ℤ) → r.0 ≤ℤ x → x ≤ℤ r.1 → lies_in r x ≡ true
 inside r x p q = grind (arith, ints)
@@ -103,6 +102,9 @@ module _ (lo hi : ℤ) (all : List (ℤ × ℤ)) where
       complement_step new (inl h) = rw h.0 (skipped h.1)
       complement_step new (inr (g, e, p, q, h)) = rw e (pushed g p q h)
 
+    pub complement_apart : (rest : List (ℤ × ℤ)) → IsComplement lo hi all out rest floor → EndApart floor out
+    complement_apart rest c = apart_from_end lo (floor -ℤ pos 2) floor out c.canonical (omega (arith, ints))
+
     -- nothing is left, and the floor is past the end
     pub complement_full : (rest : List (ℤ × ℤ)) → IsComplement lo hi all out rest floor → floor ≡ hi +ℤ pos 1
         → IsCanonical lo hi out × ((x : ℤ) → lo ≤ℤ x → x ≤ℤ hi → holds out x ≡ not (holds all x))
@@ -121,20 +123,19 @@ module _ (lo hi : ℤ) (all : List (ℤ × ℤ)) where
         )
 
 -- the same of ranges of a numbered type
-module _ {T : Type 0} (numbers : Numbering T) (all out : List (T × T)) where
-  pub after_gap : (new rest behind : List (T × T)) (range : T × T) (floor : ℤ) → rest ≡ range ∷ behind
-      → IsComplement numbers.least numbers.greatest (all_in_numbers numbers all) (all_in_numbers numbers out) (all_in_numbers numbers rest) floor
-      → IsGapPushed (all_in_numbers numbers out) floor (numbers.number range.0) (all_in_numbers numbers new)
-      → IsComplement numbers.least numbers.greatest (all_in_numbers numbers all) (all_in_numbers numbers new) (all_in_numbers numbers behind) (numbers.number range.1 +ℤ pos 1)
+module _ {T : Type 0} (numbers : Numbering T) (all : List (T × T)) (out : List (ℤ × ℤ)) where
+  pub after_gap : (new : List (ℤ × ℤ)) (rest behind : List (T × T)) (range : T × T) (floor : ℤ) → rest ≡ range ∷ behind
+      → IsComplement numbers.least numbers.greatest (all_in_numbers numbers all) out (all_in_numbers numbers rest) floor
+      → IsGapPushed out floor (numbers.number range.0) new
+      → IsComplement numbers.least numbers.greatest (all_in_numbers numbers all) new (all_in_numbers numbers behind) (numbers.number range.1 +ℤ pos 1)
   after_gap new rest behind range floor is c pushed =
-      complement_step numbers.least numbers.greatest (all_in_numbers numbers all) (all_in_numbers numbers out) floor (in_numbers numbers range) (all_in_numbers numbers behind)
-      (rw is at c) (all_in_numbers numbers new) pushed
+      complement_step numbers.least numbers.greatest (all_in_numbers numbers all) out floor (in_numbers numbers range) (all_in_numbers numbers behind)
+      (rw is at c) new pushed
 
   pub up_to_greatest : (last : T × T) (floor : ℤ)
-      → IsComplement numbers.least numbers.greatest (all_in_numbers numbers all) (all_in_numbers numbers out) [] floor
+      → IsComplement numbers.least numbers.greatest (all_in_numbers numbers all) out [] floor
       → IsRange numbers last → numbers.number last.0 ≡ floor → numbers.number last.1 ≡ numbers.greatest
-      → IsCanonical numbers.least numbers.greatest (all_in_numbers numbers (out ++ last ∷ []))
-      × ((x : ℤ) → numbers.least ≤ℤ x → x ≤ℤ numbers.greatest → holds (all_in_numbers numbers (out ++ last ∷ [])) x ≡ not (holds (all_in_numbers numbers all) x))
+      → IsCanonical numbers.least numbers.greatest (out ++ in_numbers numbers last ∷ [])
+      × ((x : ℤ) → numbers.least ≤ℤ x → x ≤ℤ numbers.greatest → holds (out ++ in_numbers numbers last ∷ []) x ≡ not (holds (all_in_numbers numbers all) x))
   up_to_greatest last floor c range e f =
-      rw (map_push (in_numbers numbers) out last)
-      (complement_end numbers.least numbers.greatest (all_in_numbers numbers all) (all_in_numbers numbers out) floor (in_numbers numbers last) c e f range.ordered)
+      complement_end numbers.least numbers.greatest (all_in_numbers numbers all) out floor (in_numbers numbers last) c e f range.ordered

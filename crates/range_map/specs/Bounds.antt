@@ -3,7 +3,7 @@ use Rattle.std.specs.Prelude.{◌<◌, ◌≤◌, ◌≡◌, ℕ, suc, ◌==◌,
 use Rattle.std.specs.List.{list_any}
 use Rattle.element_core.specs.Numbering.{Numbering}
 use Rattle.number_line.specs.Ranges.{lies_in, xor}
-use Rattle.range_map.specs.declared.bounds.Bound.{Bound}
+use Rattle.range_map.specs.declared.sweep.bounds.Bound.{Bound}
 
 -- the ranges of pairs
 abbrev pub ranges_of : {V : Type 0} → List ((ℤ × ℤ) × V) → List (ℤ × ℤ)
@@ -50,6 +50,13 @@ abbrev pub AreBoundsPushed : ℤ → List (ℤ × ℕ) → ℤ × ℤ → ℕ �
 AreBoundsPushed greatest old r place new =
     (other : ℕ) (x : ℤ) → x ≤ℤ greatest → crossed new other x ≡ xor (crossed old other x) ((place == other) && lies_in r x)
 
+abbrev pub has_place : List ℕ → ℕ → Bool
+has_place places place = list_any (λ other. other == place) places
+
+-- `new` has that place where `old` hasn't, and the other places where `old` has them
+abbrev pub IsToggled : List ℕ → ℕ → List ℕ → Type 0
+IsToggled old place new = (other : ℕ) → has_place new other ≡ xor (place == other) (has_place old other)
+
 -- whether an odd count of the places is that place
 abbrev pub is_odd : List ℕ → ℕ → Bool
 is_odd [] place = false
@@ -70,10 +77,20 @@ pub record Active : Type 0 where
   pub places : List ℕ
   pub rest : List (ℤ × ℕ)
 
-abbrev pub has_place : List ℕ → ℕ → Bool
-has_place places place = list_any (λ other. other == place) places
-
 -- the places are those at n, and the bounds still to come give those at every later number
 abbrev pub AreActive : ℤ → List (ℤ × ℤ) → ℤ → Active → Type 0
 AreActive greatest ranges n active =
     (place : ℕ) (x : ℤ) → n ≤ℤ x → x ≤ℤ greatest → xor (has_place active.places place) (crossed active.rest place x) ≡ lies_at ranges place x
+
+-- where the bounds are those of some ranges, the places are active at any number
+abbrev pub StartsActive : ℤ → List (ℤ × ℕ) → Active → Type 0
+StartsActive greatest bounds active = (ranges : List (ℤ × ℤ)) (n : ℤ) → AreBounds greatest ranges bounds → AreActive greatest ranges n active
+
+-- what was active at x is, after x was entered, active at each number from x on
+abbrev pub StaysActive : ℤ → ℤ → Active → Active → Type 0
+StaysActive greatest x before after =
+    (ranges : List (ℤ × ℤ)) (n : ℤ) → AreActive greatest ranges x before → x ≤ℤ n → AreActive greatest ranges n after
+
+-- the places are those of the ranges that hold x, where these were active at x
+abbrev pub ArePlacesAt : ℤ → ℤ → Active → List ℕ → Type 0
+ArePlacesAt greatest x before places = (ranges : List (ℤ × ℤ)) → AreActive greatest ranges x before → places ≡ places_at ranges x

@@ -7,3 +7,4 @@ pub mod MapLaws
 pub mod MapError
 pub mod Sweep
 pub mod Bounds
+pub mod Making

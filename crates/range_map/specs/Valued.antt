@@ -1,5 +1,5 @@
 -- Lists of ranges of a numbered type that carry a value each.
-use Rattle.std.specs.Prelude.{ℤ, Bool, List, [], ◌∷◌, map}
+use Rattle.std.specs.Prelude.{◌≡◌, ℤ, Bool, true, List, [], ◌∷◌, map}
 use Rattle.element_core.specs.Numbering.{Numbering}
 use Rattle.number_line.specs.Valued.{IsCanonicalMap}
 use Rattle.range_map.specs.Range.{IsRange, in_numbers}
@@ -16,6 +16,10 @@ pairs_in_numbers numbers pairs = map (pair_in_numbers numbers) pairs
 abbrev pub AreValuedRanges : {T V : Type 0} → Numbering T → List ((T × T) × V) → Type 0
 AreValuedRanges numbers [] = Unit {0}
 AreValuedRanges numbers (pair ∷ rest) = IsRange numbers pair.0 × AreValuedRanges numbers rest
+
+-- a clone of a value is equal to it
+abbrev pub ClonesAreEqual : {V : Type 0} → (V → V → Type 0) → (V → V → Bool) → Type 0
+ClonesAreEqual {V} is_clone same = (a b : V) → is_clone a b → same b a ≡ true
 
 -- the list of pairs that a map keeps; `same` compares values
 pub record IsMap {T V : Type 0} (numbers : Numbering T) (same : V → V → Bool) (pairs : List ((T × T) × V)) : Type 0 where

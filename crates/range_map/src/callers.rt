@@ -1,5 +1,5 @@
-//! What a caller learns: of two values in hand that they make a range, and of a set's ranges in a loop over them, by
-//! the first and the rest, and as the whole list.
+//! What a caller learns: of two values in hand that they make a range, and of a set's ranges in a
+//! loop over them, by the first and the rest, and as the whole list.
 ghost use Rattle.std.specs.Prelude.{◌≡◌, ℤ, pos, ◌||◌, ◌≤ℤ◌, ◌<ℤ◌, IfOk, IfSome, IfNone};
 ghost use Rattle.number_line.specs.Ranges.{lies_in, holds};
 ghost use Rattle.range_map.specs.Set.{all_in_numbers};
@@ -22,7 +22,8 @@ pub(crate) fn between<T: Element>(a: T, b: T) -> Option<Range<T>>
 
 /// At `i64` the numbers of a set are the values themselves.
 pub(crate) fn two_runs(alloc: Global) -> Result<RangeSet<i64>, NoMemory>
-    ensures { IfOk result (λ set. (x : ℤ) → holds set x ≡ (lies_in (pos 1, pos 5) x || lies_in (pos 8, pos 9) x)) }
+    ensures { IfOk result
+        (λ set. (x : ℤ) → holds set x ≡ (lies_in (pos 1, pos 5) x || lies_in (pos 8, pos 9) x)) }
 {
     let small = RangeSet::from_range(alloc, Range::new(1, 5))?;
     let large = RangeSet::from_range(alloc, Range::new(8, 9))?;

@@ -1,32 +1,23 @@
-//! Inclusive ranges of a numbered type, sets of its values kept as ranges, and maps from them kept as ranges with a
-//! value each.
+//! Inclusive ranges of a numbered type, sets of its values kept as ranges, and maps from them kept
+//! as ranges with a value each.
 #![tactic(auto)]
 
-mod active;
-mod bounds;
 #[cfg(test)]
 mod callers;
-mod from_iter;
 #[cfg(test)]
 mod from_iter_tests;
-mod growing;
-mod iter;
 pub mod laws;
 mod map;
-mod map_compared;
-mod map_error;
-mod map_from_iter;
 #[cfg(test)]
 mod map_tests;
-mod merging;
 mod range;
 mod set;
 pub mod sweep;
 #[cfg(test)]
 mod tests;
 
-pub use iter::RangeIter;
-pub use map::RangeMap;
-pub use map_error::{OverlapError, TryFromIterError};
+#[doc(hidden)]
+pub use map::MapBuilder;
+pub use map::{OverlapError, RangeMap, TryFromIterError};
 pub use range::Range;
-pub use set::RangeSet;
+pub use set::{RangeIter, RangeSet};

@@ -1,21 +1,30 @@
 //! Maps from the values of a numbered type, kept as ranges with a value each.
-ghost use Rattle.std.specs.Prelude.{◌≡◌, ◌<◌, ◌^◌, [], length, IsTrue, ◌↔◌};
+ghost use Rattle.std.specs.Prelude.{◌≡◌, ◌<◌, ◌^◌, [], length, IsTrue, IfOk, ◌↔◌};
 ghost use Rattle.std.specs.Option.{option_copied};
 ghost use Rattle.std.specs.Slice.Iter.{iter_rest};
 ghost use Rattle.number_line.specs.Valued.{value_at, IsCanonicalMap};
-ghost use Rattle.range_map.specs.Valued.{pairs_in_numbers};
+ghost use Rattle.range_map.specs.Valued.{pairs_in_numbers, IsMap};
+
+mod compared;
+mod error;
+mod from_iter;
+mod growing;
+
+pub use error::{OverlapError, TryFromIterError};
+#[doc(hidden)]
+pub use growing::MapBuilder;
 
 use crate::range::Range;
-use element_core::Element;
+use element_core::{Element, NoMemory};
 use std::alloc::Global;
 use std::marker::Model;
 use std::slice::Iter;
 
-/// A map from keys of the type `T` to values, kept as ascending ranges of keys with a value each. No two ranges
-/// overlap, and ranges that touch have different values.
+/// A map from keys of the type `T` to values, kept as ascending ranges of keys with a value each.
+/// No two ranges overlap, and ranges that touch have different values.
 ///
-/// Contracts see a map as the list of its ranges in numbers with their values, and `value_at` says which value a
-/// key has. Two maps with equal values at each key are equal.
+/// Contracts see a map as the list of its ranges in numbers with their values, and `value_at` says
+/// which value a key has. Two maps with equal values at each key are equal.
 #[derive(Debug, Drop)]
 pub struct RangeMap<T: Element, V: Eq> {
     pub(crate) pairs: Vec<(Range<T>, V)>,
@@ -42,6 +51,36 @@ impl<T: Element, V: Eq> RangeMap<T, V> {
         }
     }
 
+    /// The map of ranges that are those of one already. Takes O(1) time and no memory.
+    // For the copy of a map, whose values come one by one.
+    #[doc(hidden)]
+    pub fn from_canonical(pairs: Vec<(Range<T>, V)>) -> Self
+        requires { IsMap T.numbers V.eq pairs.items }
+        ensures { result ≡ pairs_in_numbers T.numbers pairs.items }
+    {
+        RangeMap { pairs }
+    }
+
+    /// The empty map, with room for so many ranges. Takes O(1) time.
+    // For the crates that make maps: a caller would use `try_from_iter`.
+    #[doc(hidden)]
+    pub fn with_capacity(alloc: Global, ranges: usize) -> Result<Self, NoMemory>
+        ensures { IfOk result (λ map. map ≡ []) }
+    {
+        let pairs = Vec::with_capacity(alloc, ranges)?;
+        Ok(RangeMap { pairs })
+    }
+
+    /// The ranges with their values, ascending. Takes O(1) time and no memory.
+    // For the joins, which walk over maps by the places of their ranges.
+    #[doc(hidden)]
+    pub fn as_slice(&self) -> &[(Range<T>, V)]
+        ensures list { pairs_in_numbers T.numbers result.now ≡ self.now }
+        ensures canonical { IsCanonicalMap V.eq T.numbers.least T.numbers.greatest self.now }
+    {
+        self.pairs.as_slice()
+    }
+
     /// Whether no key has a value. Takes O(1) time and no memory.
     pub fn is_empty(&self) -> bool
         ensures { IsTrue result ↔ (self.now ≡ []) }
@@ -65,7 +104,8 @@ impl<T: Element, V: Eq> RangeMap<T, V> {
         self.pairs.iter()
     }
 
-    /// The value at the key `x`, or `None` where it has none. Takes O(log n) time for n ranges, and no memory.
+    /// The value at the key `x`, or `None` where it has none. Takes O(log n) time for n ranges, and
+    /// no memory.
     pub fn get(&self, x: T) -> Option<&V>
         ensures { option_copied result ≡ value_at self.now (T.numbers.number x) }
     {

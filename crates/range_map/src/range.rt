@@ -13,8 +13,8 @@ use std::marker::Model;
 
 /// The values from a start to an end, both included. The start is never greater than the end.
 ///
-/// Ranges are ordered by their starts, and those with equal starts by their ends. Every call takes O(1) time and
-/// no memory.
+/// Ranges are ordered by their starts, and those with equal starts by their ends. Every call takes
+/// O(1) time and no memory.
 #[derive(Copy, PartialEq, Eq, PartialOrd, Ord, Hash, Debug)]
 pub struct Range<T: Element> {
     start: T,
@@ -40,7 +40,8 @@ impl<T: Element> Clone for Range<T> {
 }
 
 impl<T: Element> Range<T> {
-    /// The range from `start` to `end`. Generic code tells that they are in order by `is_at_most` of `element_core`.
+    /// The range from `start` to `end`. Generic code tells that they are in order by `is_at_most`
+    /// of `element_core`.
     pub fn new(start: T, end: T) -> Self
         requires { T.numbers.number start ≤ℤ T.numbers.number end }
         ensures value { result ≡ (start, end) }
@@ -97,9 +98,12 @@ impl<T: Element> Range<T> {
 
     /// Whether some value lies in both ranges.
     pub fn intersects(&self, other: &Self) -> bool
-        ensures shared { OnTrue result ((x : ℤ) × ((lies_in (in_numbers T.numbers self.now) x && lies_in (in_numbers T.numbers other.now) x) ≡ true)) }
-        ensures apart { OnFalse result ((x : ℤ) → (lies_in (in_numbers T.numbers self.now) x && lies_in (in_numbers T.numbers other.now) x) ≡ false) }
-        ensures ends { result ≡ overlaps (in_numbers T.numbers self.now) (in_numbers T.numbers other.now) }
+        ensures shared { OnTrue result ((x : ℤ) × ((lies_in (in_numbers T.numbers self.now) x
+            && lies_in (in_numbers T.numbers other.now) x) ≡ true)) }
+        ensures apart { OnFalse result ((x : ℤ) → (lies_in (in_numbers T.numbers self.now) x
+            && lies_in (in_numbers T.numbers other.now) x) ≡ false) }
+        ensures ends { result ≡ overlaps (in_numbers T.numbers self.now)
+            (in_numbers T.numbers other.now) }
     {
         !is_below(other.end, self.start) && !is_below(self.end, other.start)
     }
@@ -118,10 +122,13 @@ impl<T: Element> Range<T> {
 
     /// The range of the values that lie in both, or `None` where no value does.
     pub fn intersection(&self, other: &Self) -> Option<Self>
-        ensures start { IfSome result (λ both. T.numbers.number both.0 ≡ int_max (T.numbers.number self.now.0) (T.numbers.number other.now.0)) }
-        ensures end { IfSome result (λ both. T.numbers.number both.1 ≡ int_min (T.numbers.number self.now.1) (T.numbers.number other.now.1)) }
+        ensures start { IfSome result (λ both. T.numbers.number both.0
+            ≡ int_max (T.numbers.number self.now.0) (T.numbers.number other.now.0)) }
+        ensures end { IfSome result (λ both. T.numbers.number both.1
+            ≡ int_min (T.numbers.number self.now.1) (T.numbers.number other.now.1)) }
         ensures range { IfSome result (IsRange T.numbers) }
-        ensures none { IfNone result ((x : ℤ) → (lies_in (in_numbers T.numbers self.now) x && lies_in (in_numbers T.numbers other.now) x) ≡ false) }
+        ensures none { IfNone result ((x : ℤ) → (lies_in (in_numbers T.numbers self.now) x
+            && lies_in (in_numbers T.numbers other.now) x) ≡ false) }
     {
         let start = if is_below(self.start, other.start) {
             other.start
@@ -142,8 +149,10 @@ impl<T: Element> Range<T> {
 
     /// The smallest range that covers both.
     pub fn cover(&self, other: &Self) -> Self
-        ensures start { T.numbers.number result.0 ≡ int_min (T.numbers.number self.now.0) (T.numbers.number other.now.0) }
-        ensures end { T.numbers.number result.1 ≡ int_max (T.numbers.number self.now.1) (T.numbers.number other.now.1) }
+        ensures start { T.numbers.number result.0
+            ≡ int_min (T.numbers.number self.now.0) (T.numbers.number other.now.0) }
+        ensures end { T.numbers.number result.1
+            ≡ int_max (T.numbers.number self.now.1) (T.numbers.number other.now.1) }
         ensures range { IsRange T.numbers result }
     {
         let start = if is_below(other.start, self.start) {
@@ -159,8 +168,8 @@ impl<T: Element> Range<T> {
         Range { start, end }
     }
 
-    /// Where the range lies beside `x`: `Less` where its end is below `x`, `Greater` where its start is above it,
-    /// and `Equal` where it contains `x`.
+    /// Where the range lies beside `x`: `Less` where its end is below `x`, `Greater` where its
+    /// start is above it, and `Equal` where it contains `x`.
     pub fn cmp_element(&self, x: T) -> Ordering
         ensures { result ≡ place_beside (T.numbers.number x) (in_numbers T.numbers self.now) }
     {

@@ -1,21 +1,28 @@
 //! Sets of values, each kept as its ranges.
-ghost use Rattle.std.specs.Prelude.{◌≡◌, ℤ, ◌≤ℤ◌, ◌&&◌, ◌||◌, not, [], ◌∷◌, length, IfOk, IsTrue, ◌↔◌};
+ghost use Rattle.std.specs.Prelude.{◌≡◌, ℤ, ◌≤ℤ◌, ◌&&◌, ◌||◌, not};
+ghost use Rattle.std.specs.Prelude.{[], ◌∷◌, length, IfOk, IsTrue, ◌↔◌};
 ghost use Rattle.number_line.specs.Ranges.{holds, IsCanonical};
 ghost use Rattle.range_map.specs.Range.{in_numbers};
 
-use crate::iter::RangeIter;
-use crate::merging::{push_common, push_gap, push_joined, take_first};
+mod from_iter;
+mod iter;
+mod merging;
+
+pub use iter::RangeIter;
+
 use crate::range::Range;
+use merging::take_first;
 use element_core::{Element, NoMemory, is_below};
 use std::alloc::Global;
 use std::hash::{Hash, Hasher};
 use std::marker::Model;
 
-/// A set of values, kept as the fewest ranges that hold them, ascending: each begins two or more past the end of
-/// the one before it.
+/// A set of values, kept as the fewest ranges that hold them, ascending: each begins two or more
+/// past the end of the one before it.
 ///
-/// Contracts see a set as the list of its ranges in numbers. Two sets with the same members are equal. Where memory
-/// is short, a call that makes a set answers `NoMemory`, and the sets that it read stay as they were.
+/// Contracts see a set as the list of its ranges in numbers. Two sets with the same members are
+/// equal. Where memory is short, a call that makes a set answers `NoMemory`, and the sets that it
+/// read stay as they were.
 #[derive(Debug, Drop)]
 pub struct RangeSet<T: Element> {
     pub(crate) ranges: Vec<Range<T>>,
@@ -104,61 +111,67 @@ impl<T: Element> RangeSet<T> {
             .is_ok()
     }
 
-    /// The set of the values that are members of either set. Takes O(n + m) time for n and m ranges.
+    /// The set of the values that are members of either set. Takes O(n + m) time for n and m
+    /// ranges.
     pub fn union(&self, alloc: Global, other: &Self) -> Result<Self, NoMemory>
         ensures canonical { IfOk result (IsCanonical T.numbers.least T.numbers.greatest) }
-        ensures members { IfOk result (λ set. (x : ℤ) → holds set x ≡ (holds self.now x || holds other.now x)) }
+        ensures members { IfOk result
+            (λ set. (x : ℤ) → holds set x ≡ (holds self.now x || holds other.now x)) }
     {
         let mut left = self.ranges.as_slice();
         let mut right = other.ranges.as_slice();
-        let mut ranges = Vec::with_capacity(alloc, left.len().saturating_add(right.len()))?;
+        let mut set = RangeSet::with_capacity(alloc, left.len().saturating_add(right.len()))?;
         while let Some(taken) = take_first(left, right) {
-            push_joined(&mut ranges, taken.next)?;
+            set.push_joined(taken.next)?;
             left = taken.left;
             right = taken.right;
         }
-        Ok(RangeSet { ranges })
+        Ok(set)
     }
 
     /// The set of the values that are members of both sets. Takes O(n + m) time for n and m ranges.
     pub fn intersection(&self, alloc: Global, other: &Self) -> Result<Self, NoMemory>
         ensures canonical { IfOk result (IsCanonical T.numbers.least T.numbers.greatest) }
-        ensures members { IfOk result (λ set. (x : ℤ) → holds set x ≡ (holds self.now x && holds other.now x)) }
+        ensures members { IfOk result
+            (λ set. (x : ℤ) → holds set x ≡ (holds self.now x && holds other.now x)) }
     {
         let mut left = self.ranges.as_slice();
         let mut right = other.ranges.as_slice();
-        let mut ranges = Vec::with_capacity(alloc, left.len().saturating_add(right.len()))?;
+        let mut set = RangeSet::with_capacity(alloc, left.len().saturating_add(right.len()))?;
         while let Some((first, after_first)) = left.split_first() {
             let Some((second, after_second)) = right.split_first() else {
-                return Ok(RangeSet { ranges });
+                return Ok(set);
             };
-            push_common(&mut ranges, first, second)?;
+            set.push_common(first, second)?;
             if is_below(first.end(), second.end()) {
                 left = after_first;
             } else {
                 right = after_second;
             }
         }
-        Ok(RangeSet { ranges })
+        Ok(set)
     }
 
-    /// The set of the values that aren't members, the two ends of the type included. Takes O(n) time for n ranges.
+    /// The set of the values that aren't members, the two ends of the type included. Takes O(n)
+    /// time for n ranges.
     pub fn negated(&self, alloc: Global) -> Result<Self, NoMemory>
         ensures canonical { IfOk result (IsCanonical T.numbers.least T.numbers.greatest) }
-        ensures members { IfOk result (λ set. (x : ℤ) → T.numbers.least ≤ℤ x → x ≤ℤ T.numbers.greatest → holds set x ≡ not (holds self.now x)) }
+        ensures members { IfOk result
+            (λ set. (x : ℤ) → T.numbers.least ≤ℤ x → x ≤ℤ T.numbers.greatest
+            → holds set x ≡ not (holds self.now x)) }
     {
-        let mut ranges = Vec::with_capacity(alloc, self.ranges.len().saturating_add(1))?;
+        let mut set = RangeSet::with_capacity(alloc, self.ranges.len().saturating_add(1))?;
         let mut start = T::min_value();
         for range in &self.ranges {
-            push_gap(&mut ranges, start, range)?;
+            set.push_gap(start, range)?;
             match range.end().successor() {
                 Some(next) => start = next,
-                None => return Ok(RangeSet { ranges }),
+                None => return Ok(set),
             }
         }
         start.in_type();
-        ranges.push(Range::new(start, T::max_value()))?;
-        Ok(RangeSet { ranges })
+        set.push_apart(Range::new(start, T::max_value()))?;
+        Ok(set)
     }
 
     /// A set equal to this one. Takes O(n) time for n ranges.
@@ -197,7 +210,8 @@ impl<T: Element + Hash> Hash for RangeSet<T> {
 
     ghost hash_input = { ranges_fed T.numbers T.hash_input };
 
-    ghost respects_eq = { λ x y equal. ap (ranges_fed T.numbers T.hash_input) ((same_ranges_decides x y).0 equal) };
+    ghost respects_eq = { λ x y equal. ap (ranges_fed T.numbers T.hash_input)
+        ((same_ranges_decides x y).0 equal) };
 
     fn hash<H: Hasher>(&self, state: &mut H) {
         self.ranges.hash(state);

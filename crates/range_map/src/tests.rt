@@ -1,4 +1,5 @@
-//! What no contract shows: that the calls succeed where memory suffices, and that the contracts say what is meant.
+//! What no contract shows: that the calls succeed where memory suffices, and that the contracts say
+//! what is meant.
 use crate::callers::{between, collected, first_and_rest, listed, two_runs};
 use crate::{Range, RangeSet};
 use element_core::{Element, NoMemory};
@@ -8,7 +9,8 @@ use std::hash::{DefaultHasher, Hash, Hasher};
 use std::process::Abort;
 use std::test::Fail;
 
-/// The set of the numbers in any of the ranges; ranges whose start is greater than their end are left out.
+/// The set of the numbers in any of the ranges; ranges whose start is greater than their end are
+/// left out.
 fn set_of(alloc: Global, ranges: &[(i64, i64)]) -> Result<RangeSet<i64>, NoMemory> {
     let mut set = RangeSet::new(alloc);
     for (start, end) in ranges {

@@ -1,15 +1,18 @@
 //! The values of the ranges that hold a key.
 ghost use Rattle.std.specs.Prelude.{◌≡◌, IfOk, true};
 ghost use Rattle.std.specs.Cmp.Lexicographic.{pointwise};
+ghost use Rattle.range_map.specs.Valued.{ClonesAreEqual};
 
 use element_core::NoMemory;
 use std::alloc::Global;
 use std::hash::{Hash, Hasher};
 use std::marker::Model;
 
-/// The values of the ranges that hold a key, in the order in which these came and as often as they hold it.
+/// The values of the ranges that hold a key, in the order in which these came and as often as they
+/// hold it.
 ///
-/// Contracts see a group as the list of its values. `RangeMultiMap::group` never makes an empty one.
+/// Contracts see a group as the list of its values. `RangeMultiMap::group` never makes an empty
+/// one.
 #[derive(Debug, Drop)]
 pub struct Group<V: Eq> {
     pub(crate) values: Vec<V>,
@@ -25,7 +28,7 @@ impl<V: Eq> Model for Group<V> {
 
 /// Clones of the values, in their order.
 fn clones_of<V: Eq + Clone + Drop>(alloc: Global, values: &[V]) -> Result<Vec<V>, NoMemory>
-    requires { (a b : V) → V.is_clone a b → V.eq b a ≡ true }
+    requires { ClonesAreEqual V.is_clone V.eq }
     ensures { IfOk result (λ copy. pointwise V.eq copy.items values.now ≡ true) }
 {
     let mut copy = Vec::with_capacity(alloc, values.len())?;
@@ -54,7 +57,7 @@ impl<V: Eq> Group<V> {
     pub fn try_clone(&self, alloc: Global) -> Result<Self, NoMemory>
     where
         V: Clone + Drop,
-        requires { (a b : V) → V.is_clone a b → V.eq b a ≡ true }
+        requires { ClonesAreEqual V.is_clone V.eq }
         ensures { IfOk result (λ copy. pointwise V.eq copy self.now ≡ true) }
     {
         let values = clones_of(alloc, self.values.as_slice())?;

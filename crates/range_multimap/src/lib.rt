@@ -1,4 +1,5 @@
-//! Ranges with values that may overlap, kept in the order in which they came, and grouped into ranges that don't.
+//! Ranges with values that may overlap, kept in the order in which they came, and grouped into
+//! ranges that don't.
 #![tactic(auto)]
 
 #[cfg(test)]

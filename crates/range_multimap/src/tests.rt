@@ -1,4 +1,5 @@
-//! What no contract shows: that the calls succeed where memory suffices, and that the contracts say what is meant.
+//! What no contract shows: that the calls succeed where memory suffices, and that the contracts say
+//! what is meant.
 ghost use Rattle.std.specs.Prelude.{◌≡◌};
 
 use crate::callers::push_pair;

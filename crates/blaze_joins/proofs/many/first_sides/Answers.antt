@@ -1,7 +1,7 @@
 use Rattle.std.proofs.lemmas.Grind.{common_steps}
 use Rattle.std.proofs.Common.{◌≡◌, ◌+◌, [], ◌∷◌, drop, arith}
 use Rattle.blaze_joins.specs.SideView.{IsSideOf}
-use Rattle.blaze_joins.proofs.ZippedLemmas.{zipped_start, zipped_step, zipped_end}
+use Rattle.number_line.proofs.ZippedLemmas.{zipped_start, zipped_step, zipped_end}
 use Rattle.blaze_joins.proofs.many.first_sides.Goals as goal
 
 pub loop-map-init : goal.loop-map-init

@@ -1,6 +1,6 @@
 use Rattle.std.proofs.Common.{drop}
 use Rattle.blaze_joins.specs.SideView.{IsSideOf}
-use Rattle.blaze_joins.proofs.ZippedLemmas.{IsZipped}
+use Rattle.number_line.proofs.ZippedLemmas.{IsZipped}
 use Rattle.blaze_joins.proofs.many.first_sides.Given as goal
 
 abbrev pub invariant-loop-map : goal.invariant-loop-map

@@ -9,15 +9,14 @@ use Rattle.blaze_joins.specs.Joins.{CalledAtAll}
 use Rattle.blaze_joins.specs.SideView.{holders_in}
 use Rattle.blaze_joins.proofs.SideLemmas.{ends_low, cut_sides, each_there, sides_long}
 use Rattle.blaze_joins.proofs.many.inner_join_all.Goals as goal
-use Rattle.blaze_joins.proofs.many.inner_join_all.Goals.{then-each_holds+in_ok-values+in_ok-push_value, else-each_holds}
+use Rattle.blaze_joins.proofs.many.inner_join_all.Goals.{then-each_holds+in_ok-values+in_ok-push, else-each_holds}
 
 pub loop-sides-init : goal.loop-sides-init
 loop-sides-init g c =
     let numbers = g.T.Element.numbers in
-    rw (c.min_value-start.ensures.number, c.new-pairs.ensures.items) record {
+    rw (c.min_value-start.ensures.number, c.new-map.ensures) record {
       callable = search (rules, of_calls);
       is_value = c.min_value-start.ensures.is_value;
-      map = record { are_ranges = tt; canonical = tt };
       below = tt;
       sides = c.in_ok-sides.ensures;
       joined = joined_first (CalledAtAll g.V.Clone.is_clone g.F.FnMut) same_holders_of_all in_all (holders_of_all_at c.args.maps.now) g.X.PartialEq.eq numbers.least numbers.greatest c.args.f;
@@ -55,9 +54,9 @@ returns-in_default-clause-joined g c =
     let there = each_there numbers g.V.PartialEq.eq start maps sides inv.sides in
     let further = cut_sides numbers g.V.PartialEq.eq start in_all end (end +ℤ pos 1) maps sides (g.met.T.Element.numbered.low _ inv.is_value) (g.met.T.Element.numbered.high _ inv.is_value) inv.sides least refl in
     let last : end ≡ numbers.greatest = c.in_default.ensures.at_end.0 refl in
-    joined_all step same_holders_of_all in_all (holders_of_all_at maps) eq numbers.least numbers.greatest (end +ℤ pos 1) c.args.f c.if-each_holds.f (pairs_in_numbers numbers c.if-each_holds.pairs.items) (omega (arith, ints))
+    joined_all step same_holders_of_all in_all (holders_of_all_at maps) eq numbers.least numbers.greatest (end +ℤ pos 1) c.args.f c.if-each_holds.f c.if-each_holds.map (omega (arith, ints))
     (elim c.if-each_holds.branch [
-      | then-each_holds+in_ok-values+in_ok-push_value w ↦ rw (w.f-is, w.pairs-is)
+      | then-each_holds+in_ok-values+in_ok-push w ↦ rw (w.f-is, w.map-is)
           (joined_call step same_holders_of_all in_all (holders_of_all_at maps) eq numbers.least numbers.greatest start (end +ℤ pos 1) ((start, end), holders_in maps sides) further _ _ _ _ _ _
           (sym there ∙ sym (rw c.as_slice-in-loop-sides.ensures.value at w.if-each_holds.ensures))
           (record {
@@ -65,8 +64,8 @@ returns-in_default-clause-joined g c =
             clones = rw w.as_slice-then-each_holds-2.ensures.value (rw w.as_slice-then-each_holds.ensures.value at w.in_ok-values.ensures);
             called = w.f-answer.ensures;
           })
-          (rw w.new.ensures.value at w.in_ok-push_value.ensures.put) inv.joined)
-      | else-each_holds w ↦ rw (w.f-is, w.pairs-is)
+          (rw w.new.ensures.value at w.in_ok-push.ensures.is) inv.joined)
+      | else-each_holds w ↦ rw (w.f-is, w.map-is)
           (joined_past step same_holders_of_all in_all (holders_of_all_at maps) eq numbers.least numbers.greatest start (end +ℤ pos 1) ((start, end), holders_in maps sides) further _ _ _
           (sym there ∙ sym (rw c.as_slice-in-loop-sides.ensures.value at w.if-each_holds.ensures)) inv.joined)
     ])
@@ -107,21 +106,17 @@ loop-sides-preserved g c =
     let low = ends_low numbers g.V.PartialEq.eq _ _ _ (g.met.T.Element.numbered.high _ inv.is_value) inv.sides in
     record {
       callable = elim c.if-each_holds.branch [
-        | then-each_holds+in_ok-values+in_ok-push_value w ↦ rw w.f-is (search (rules, of_calls))
+        | then-each_holds+in_ok-values+in_ok-push w ↦ rw w.f-is (search (rules, of_calls))
         | else-each_holds w ↦ rw w.f-is inv.callable
       ];
       is_value = c.in-Some.ensures.next.0;
-      map = elim c.if-each_holds.branch [
-        | then-each_holds+in_ok-values+in_ok-push_value w ↦ rw w.pairs-is w.in_ok-push_value.ensures.map
-        | else-each_holds w ↦ rw w.pairs-is inv.map
-      ];
       below = rw next (elim c.if-each_holds.branch [
-        | then-each_holds+in_ok-values+in_ok-push_value w ↦ rw w.pairs-is (rw w.new.ensures.value at w.in_ok-push_value.ensures.labelled.behind)
-        | else-each_holds w ↦ rw w.pairs-is (end_below-raise start (end +ℤ pos 1) _ (omega (arith, ints, low, least)) inv.below)
+        | then-each_holds+in_ok-values+in_ok-push w ↦ rw w.map-is (rw w.new.ensures.value at w.in_ok-push.ensures.labelled.behind)
+        | else-each_holds w ↦ rw w.map-is (end_below-raise start (end +ℤ pos 1) _ (omega (arith, ints, low, least)) inv.below)
       ]);
       sides = c.in_ok-sides-2.ensures;
       joined = rw next (elim c.if-each_holds.branch [
-        | then-each_holds+in_ok-values+in_ok-push_value w ↦ rw (w.f-is, w.pairs-is)
+        | then-each_holds+in_ok-values+in_ok-push w ↦ rw (w.f-is, w.map-is)
             (joined_call step same_holders_of_all in_all (holders_of_all_at maps) eq numbers.least numbers.greatest start (end +ℤ pos 1) ((start, end), holders_in maps sides) further _ _ _ _ _ _
             (sym there ∙ sym (rw c.as_slice-in-loop-sides.ensures.value at w.if-each_holds.ensures))
             (record {
@@ -129,8 +124,8 @@ loop-sides-preserved g c =
               clones = rw w.as_slice-then-each_holds-2.ensures.value (rw w.as_slice-then-each_holds.ensures.value at w.in_ok-values.ensures);
               called = w.f-answer.ensures;
             })
-            (rw w.new.ensures.value at w.in_ok-push_value.ensures.put) inv.joined)
-        | else-each_holds w ↦ rw (w.f-is, w.pairs-is)
+            (rw w.new.ensures.value at w.in_ok-push.ensures.is) inv.joined)
+        | else-each_holds w ↦ rw (w.f-is, w.map-is)
             (joined_past step same_holders_of_all in_all (holders_of_all_at maps) eq numbers.least numbers.greatest start (end +ℤ pos 1) ((start, end), holders_in maps sides) further _ _ _
             (sym there ∙ sym (rw c.as_slice-in-loop-sides.ensures.value at w.if-each_holds.ensures)) inv.joined)
       ]);

@@ -8,7 +8,7 @@ use Rattle.blaze_joins.specs.PieceView.{at_place}
 use Rattle.blaze_joins.specs.SideView.{holders_in}
 use Rattle.blaze_joins.proofs.CallLemmas.{and_left, and_right}
 use Rattle.blaze_joins.proofs.SideLemmas.{value_there, clone_there}
-use Rattle.blaze_joins.proofs.ZippedLemmas.{zipped_start, zipped_step, zipped_end}
+use Rattle.number_line.proofs.ZippedLemmas.{zipped_start, zipped_step, zipped_end}
 use Rattle.blaze_joins.proofs.many.present_values.Goals as goal
 use Rattle.blaze_joins.proofs.many.present_values.Goals.{in-Some+in_ok-push, in_default}
 

@@ -3,7 +3,7 @@ use Rattle.std.specs.Prelude.{Some}
 use Rattle.number_line.specs.Pieces.{values_of_all, in_all}
 use Rattle.blaze_joins.specs.Filled.{IsOptionClone}
 use Rattle.blaze_joins.specs.SideView.{holders_in}
-use Rattle.blaze_joins.proofs.ZippedLemmas.{IsZipped}
+use Rattle.number_line.proofs.ZippedLemmas.{IsZipped}
 use Rattle.blaze_joins.proofs.many.present_values.Given as goal
 
 abbrev pub invariant-loop-i : goal.invariant-loop-i

@@ -2,7 +2,7 @@ use Rattle.std.proofs.lemmas.Grind.{common_steps}
 use Rattle.std.proofs.Common.{◌≡◌, ◌+◌, [], ◌∷◌, drop, arith}
 use Rattle.blaze_joins.specs.SideView.{IsSideOf, ends_of}
 use Rattle.blaze_joins.proofs.SideLemmas.{sides_long, below_first, below_rest}
-use Rattle.blaze_joins.proofs.ZippedLemmas.{zipped_step, zipped_end}
+use Rattle.number_line.proofs.ZippedLemmas.{zipped_step, zipped_end}
 use Rattle.blaze_joins.proofs.many.sides_behind.Goals as goal
 
 pub side_behind-requires-clause-side : goal.side_behind-requires-clause-side

@@ -1,7 +1,7 @@
 use Rattle.std.proofs.Common.{drop}
 use Rattle.std.specs.Prelude.{ℤ, ◌≤ℤ◌}
 use Rattle.blaze_joins.specs.SideView.{IsSideOf, AreSidesOf, least_of, ends_of}
-use Rattle.blaze_joins.proofs.ZippedLemmas.{IsZipped}
+use Rattle.number_line.proofs.ZippedLemmas.{IsZipped}
 use Rattle.blaze_joins.proofs.many.sides_behind.Given as goal
 
 abbrev pub invariant-loop-i : goal.invariant-loop-i

@@ -2,7 +2,7 @@ use Rattle.std.proofs.Common.{drop}
 use Rattle.number_line.specs.Pieces.{values_of_all}
 use Rattle.blaze_joins.specs.Filled.{IsOptionClone}
 use Rattle.blaze_joins.specs.SideView.{holders_in}
-use Rattle.blaze_joins.proofs.ZippedLemmas.{IsZipped}
+use Rattle.number_line.proofs.ZippedLemmas.{IsZipped}
 use Rattle.blaze_joins.proofs.many.values_of_each.Given as goal
 
 abbrev pub invariant-loop-i : goal.invariant-loop-i

@@ -6,8 +6,8 @@ use Rattle.blaze_joins.proofs.map.RangeMapBlaze.is_universal.Given as goal
 abbrev pub invariant-loop-pair : goal.invariant-loop-pair
 invariant-loop-pair g l = record {
   is_value : g.T.Element.numbers.IsValue l.start;
-  left : IsLeftFrom g.V.PartialEq.eq g.T.Element.numbers.least g.T.Element.numbers.greatest (pairs_in_numbers g.T.Element.numbers l.pair-items)
-      (pairs_in_numbers g.T.Element.numbers (drop l.pair-index l.pair-items)) (g.T.Element.numbers.number l.start);
-  have : HaveValuesTo g.V.PartialEq.eq g.T.Element.numbers.least g.T.Element.numbers.greatest (pairs_in_numbers g.T.Element.numbers l.pair-items)
+  left : IsLeftFrom g.V.PartialEq.eq g.T.Element.numbers.least g.T.Element.numbers.greatest (pairs_in_numbers g.T.Element.numbers l.pairs)
+      (pairs_in_numbers g.T.Element.numbers (drop l.pair-index l.pairs)) (g.T.Element.numbers.number l.start);
+  have : HaveValuesTo g.V.PartialEq.eq g.T.Element.numbers.least g.T.Element.numbers.greatest (pairs_in_numbers g.T.Element.numbers l.pairs)
       (g.T.Element.numbers.number l.start);
 }

@@ -6,24 +6,27 @@ use Rattle.blaze_joins.proofs.map.RangeMapBlaze.side_behind.Goals as goal
 
 pub place_behind-at-requires-clause-ends : goal.place_behind-at-requires-clause-ends
 place_behind-at-requires-clause-ends g c =
-    let rest = ap (λ t. drop c.args.side.at t) (sym c.self.view_is) ∙ drop-map (pair_in_numbers g.T.Element.numbers) c.args.side.at c.self.inside.pairs.items in
-    rw (c.as_slice.ensures.value, ← rest) (ends_from-lower _ _ _ c.requires.end c.requires.side.2.held.reaches)
+    let is = c.as_slice.ensures.list ∙ c.self.view_is in
+    let rest = ap (λ t. drop c.args.side.at t) (sym is) ∙ drop-map (pair_in_numbers g.T.Element.numbers) c.args.side.at c.as_slice.result.now in
+    rw (← rest) (ends_from-lower _ _ _ c.requires.end c.requires.side.2.held.reaches)
 
 pub place_behind-at-requires-clause-within : goal.place_behind-at-requires-clause-within
 place_behind-at-requires-clause-within g c =
-    let long = ap length (sym c.self.view_is) ∙ length-map c.self.inside.pairs.items (pair_in_numbers g.T.Element.numbers) in
-    rw (c.as_slice.ensures.value, ← long) c.requires.side.2.at.within
+    let is = c.as_slice.ensures.list ∙ c.self.view_is in
+    let long = ap length (sym is) ∙ length-map c.as_slice.result.now (pair_in_numbers g.T.Element.numbers) in
+    rw (← long) c.requires.side.2.at.within
 
 pub side_from-requires : goal.side_from-requires
 side_from-requires g c =
+    let is = c.as_slice.ensures.list ∙ c.self.view_is in
     let numbers = g.T.Element.numbers in
     let pair = pair_in_numbers numbers in
-    let items = c.self.inside.pairs.items in
-    let before = ap (λ t. drop c.args.side.at t) (sym c.self.view_is) ∙ drop-map pair c.args.side.at items in
-    let rest = ap (λ t. drop c.place_behind-at.result t) (sym c.self.view_is) ∙ drop-map pair c.place_behind-at.result items in
-    let long = ap length (sym c.self.view_is) ∙ length-map items pair in
-    let left = rw c.as_slice.ensures.value at c.place_behind-at.ensures.left in
+    let items = c.as_slice.result.now in
+    let before = ap (λ t. drop c.args.side.at t) (sym is) ∙ drop-map pair c.args.side.at items in
+    let rest = ap (λ t. drop c.place_behind-at.result t) (sym is) ∙ drop-map pair c.place_behind-at.result items in
+    let long = ap length (sym is) ∙ length-map items pair in
+    let left = c.place_behind-at.ensures.left in
     rw c.requires.next record {
-      within = rw (c.as_slice.ensures.value, ← long) at c.place_behind-at.ensures.within;
+      within = rw (← long) at c.place_behind-at.ensures.within;
       left = rw rest (left numbers.least c.requires.side.0 c.args.self.now c.requires.side.1 (rw before at c.requires.side.2.at.left));
     }

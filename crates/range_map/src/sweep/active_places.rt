@@ -1,0 +1,106 @@
+//! Which of several ranges hold a number, as a list, as the number ascends.
+ghost use Rattle.std.specs.Prelude.{◌≡◌, ℕ, ◌+◌, ◌==◌, ℤ, ◌≤ℤ◌, List, IfOk, OnOk, OnErr};
+ghost use Rattle.std.specs.List.Sorted.{IsSorted};
+ghost use Rattle.std.specs.Ordering.{nat_cmp};
+ghost use Rattle.number_line.specs.Ranges.{xor};
+ghost use Rattle.range_map.specs.Bounds.{has_place, is_odd, AscendFrom, AscendBelow};
+ghost use Rattle.range_map.specs.Bounds.{IsToggled, StaysActive, ArePlacesAt};
+
+use crate::sweep::bounds::Bound;
+use element_core::{Element, NoMemory, is_below};
+use std::alloc::Global;
+use std::marker::Model;
+
+/// The places of the ranges that hold the value last entered, ascending.
+#[derive(Drop)]
+pub struct ActivePlaces<'a, T: Element> {
+    pub(crate) places: Vec<usize>,
+    pub(crate) rest: &'a [Bound<T>],
+}
+
+impl<'a, T: Element> Model for ActivePlaces<'a, T> {
+    ghost use Rattle.std.specs.Prelude.{map};
+    ghost use Rattle.range_map.specs.Sweep.{DoNotFallFrom};
+    ghost use Rattle.range_map.specs.Bounds.{Active, AscendFrom, bounds_in_numbers};
+
+    ghost Value = { Active };
+
+    ghost view = { λ active. record {
+      places = active.places.items;
+      rest = bounds_in_numbers T.numbers active.rest.now;
+    } };
+
+    ghost invariant = { λ active.
+        DoNotFallFrom T.numbers T.numbers.least (map (λ bound. bound.at) active.rest.now)
+        × AscendFrom 0 active.places.items };
+}
+
+/// Takes `place` off where it is the last one, and else puts it behind the others. None of them is
+/// greater.
+fn toggle(places: &mut Vec<usize>, place: usize) -> Result<(), NoMemory>
+    requires { AscendBelow 0 (place + 1) places.old.items }
+    ensures ascending { OnOk result (AscendBelow 0 (place + 1) places.new.items) }
+    ensures toggled { OnOk result (IsToggled places.old.items place places.new.items) }
+{
+    let Some(last) = places.pop() else {
+        places.push(place)?;
+        return Ok(());
+    };
+    if last != place {
+        places.push(last)?;
+        places.push(place)?;
+    }
+    Ok(())
+}
+
+/// The places that stand in a sorted list an odd number of times.
+fn odd_ones(alloc: Global, sorted: &[usize]) -> Result<Vec<usize>, NoMemory>
+    requires { IsSorted nat_cmp sorted.now }
+    ensures ascending { IfOk result (λ odd. AscendFrom 0 odd.items) }
+    ensures odd { IfOk result
+        (λ odd. (place : ℕ) → has_place odd.items place ≡ is_odd sorted.now place) }
+{
+    let mut odd = Vec::with_capacity(alloc, sorted.len())?;
+    for place in sorted {
+        toggle(&mut odd, *place)?;
+    }
+    Ok(odd)
+}
+
+impl<'a, T: Element> ActivePlaces<'a, T> {
+    /// Goes on to `x`, which must not be below what was entered before. Takes O(n + m log m) time
+    /// and O(n + m) memory for n places and m bounds that are passed. After `NoMemory` everything
+    /// is as before.
+    pub fn enter(&mut self, alloc: Global, x: T) -> Result<(), NoMemory>
+        ensures goes_on { OnOk result (StaysActive T.numbers.greatest (T.numbers.number x)
+            self.old self.new) }
+        ensures entered { OnOk result (ArePlacesAt T.numbers.greatest (T.numbers.number x)
+            self.old self.new.places) }
+        ensures unchanged { OnErr result (self.new ≡ self.old) }
+    {
+        x.in_type();
+        let mut all = Vec::with_capacity(alloc, self.places.len())?;
+        all.extend_from_slice(self.places.as_slice())?;
+        let mut rest = self.rest;
+        while let Some((bound, behind)) = rest.split_first() {
+            if is_below(x, bound.at) {
+                break;
+            }
+            all.push(bound.place)?;
+            rest = behind;
+        }
+        // A place that was active and one of whose bounds was passed stands there twice. The sort
+        // takes one pass where few bounds were passed.
+        all.sort()?;
+        self.places = odd_ones(alloc, all.as_slice())?;
+        self.rest = rest;
+        Ok(())
+    }
+
+    /// The places, ascending. Takes O(1) time and no memory.
+    pub fn places(&self) -> &[usize]
+        ensures { result.now ≡ self.now.places }
+    {
+        self.places.as_slice()
+    }
+}
