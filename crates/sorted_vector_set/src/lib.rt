@@ -1,11 +1,17 @@
 //! A set whose items lie in order in one vector.
 //!
 //! Look-ups are a binary search, and items in order are put in at the end without one. Putting an item in before
-//! others, or taking one out, moves those behind it.
+//! others, or taking one out, moves those behind it; many new items at once are merged in.
 #![tactic(auto)]
 
 mod compared;
+mod grow;
 mod iters;
+mod look;
+mod merge;
+mod places;
+mod ranges;
+mod retain;
 mod set;
 #[cfg(test)]
 mod tests;
