@@ -1,2 +1,4 @@
 pub mod Content
 pub mod Calls
+pub mod Hints
+pub mod Lazy

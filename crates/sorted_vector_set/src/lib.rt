@@ -7,6 +7,7 @@
 mod compared;
 mod grow;
 mod iters;
+mod lazy;
 mod look;
 mod merge;
 mod places;
@@ -17,4 +18,5 @@ mod set;
 mod tests;
 
 pub use element_core::{NoMemory, Refused};
+pub use lazy::{Difference, Intersection, SymmetricDifference, Union};
 pub use set::SortedVectorSet;
