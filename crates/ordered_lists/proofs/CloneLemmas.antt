@@ -1,5 +1,5 @@
 -- A list that ascends, where each item gives way to an equal one.
-use Rattle.std.proofs.Common.{◌≡◌, Bool, true, List, [], ◌∷◌, refl, ◌∙◌}
+use Rattle.std.proofs.Common.{◌≡◌, Bool, true, List, [], ◌∷◌, ◌++◌, refl, ◌∙◌}
 use Rattle.std.specs.declared.cmp.Ordering.{Ordering}
 use Rattle.std.specs.declared.cmp.Ordering.TheVariants.{Less, Equal, Greater}
 use Rattle.std.specs.Cmp.{IsTotalOrder}
@@ -28,6 +28,12 @@ module _ {A : Type 0} (cmp : A → A → Ordering) (order : IsTotalOrder cmp) (R
   equals_ascend [] (y ∷ ys) each a = absurd each
   equals_ascend (x ∷ xs) [] each a = absurd each
   equals_ascend (x ∷ xs) (y ∷ ys) each a = (stays_below x y each.0 xs ys each.1 a.0, equals_ascend xs ys each.1 a.1)
+
+pub zip_more : {A B : Type 0} (R : A → B → Type 0) (xs : List A) (ys : List B) (x : A) (y : B) → AllZip R xs ys → R x y → AllZip R (xs ++ x ∷ []) (ys ++ y ∷ [])
+zip_more R [] [] x y each r = (r, tt)
+zip_more R [] (z ∷ ys) x y each r = absurd each
+zip_more R (z ∷ xs) [] x y each r = absurd each
+zip_more R (z ∷ xs) (w ∷ ys) x y each r = (each.0, zip_more R xs ys x y each.1 r)
 
 -- where each clone is equal to what was cloned, the lists are equal item by item
 module _ {A : Type 0} (R : A → A → Type 0) (eq : A → A → Bool) (equal : (x y : A) → R x y → eq y x ≡ true) where

@@ -23,7 +23,7 @@ use Rattle.sorted_iter.proofs.HintLemmas.{union-length, intersection-length, dif
 use Rattle.sorted_vector_set.specs.Hints.{exactly}
 use Rattle.sorted_vector_set.specs.Lazy.{left_of, IsSide, AreSides}
 
-map-append : {A B : Type 0} (f : A → B) (xs ys : List A) → map f (xs ++ ys) ≡ map f xs ++ map f ys
+pub map-append : {A B : Type 0} (f : A → B) (xs ys : List A) → map f (xs ++ ys) ≡ map f xs ++ map f ys
 map-append f [] ys = refl
 map-append f (x ∷ xs) ys = ap (λ l. f x ∷ l) (map-append f xs ys)
 

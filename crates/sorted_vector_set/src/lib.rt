@@ -4,6 +4,7 @@
 //! others, or taking one out, moves those behind it; many new items at once are merged in.
 #![tactic(auto)]
 
+mod combine;
 mod compared;
 mod grow;
 mod iters;
@@ -12,6 +13,7 @@ mod look;
 mod merge;
 mod places;
 mod ranges;
+mod relations;
 mod retain;
 mod set;
 #[cfg(test)]
