@@ -70,12 +70,14 @@ module _ {T : Type 0} where
       let front : map deref (pending s.head) ++ map deref p.read ≡ map deref us ++ map deref (pending t.head) = sym (map-append deref (pending s.head) p.read) ∙ ap (map deref) p.items ∙ map-append deref us (pending t.head) in
       let all : left_of s ≡ map deref us ++ left_of t =
       ap (λ l. map deref (pending s.head) ++ l) m.0 ∙ sym (append_assoc (map deref (pending s.head)) (map deref p.read) (iter_rest t.source)) ∙ ap (λ l. l ++ iter_rest t.source) front
-      ∙ append_assoc (map deref us) (map deref (pending t.head)) (iter_rest t.source) in
-      (record {
-        ascends = ascends-back cmp (map deref us) (left_of t) (subst (IsStrictlySortedBy cmp) all h.ascends);
-        fits = omega (arith, h.fits, ap length all, length-join (map deref us) (left_of t));
-        over = m.1;
-      }, all)
+      ∙ append_assoc (map deref us) (map deref (pending t.head)) (iter_rest t.source) in (
+        record {
+          ascends = ascends-back cmp (map deref us) (left_of t) (subst (IsStrictlySortedBy cmp) all h.ascends);
+          fits = omega (arith, h.fits, ap length all, length-join (map deref us) (left_of t));
+          over = m.1;
+        },
+        all,
+      )
 
   -- all that is left may follow, by some references
   to_follow : Ahead (Iter T) (Bor T) → List (Bor T)

@@ -4,6 +4,8 @@
 //! others, or taking one out, moves those behind it; many new items at once are merged in.
 #![tactic(auto)]
 
+#[cfg(test)]
+mod callers;
 mod combine;
 mod compared;
 mod grow;
@@ -11,6 +13,8 @@ mod iters;
 mod lazy;
 mod look;
 mod merge;
+#[cfg(test)]
+mod pair_tests;
 mod places;
 mod ranges;
 mod relations;

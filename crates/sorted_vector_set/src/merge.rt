@@ -62,11 +62,7 @@ fn move_behind<T: Drop>(mut right: Vec<T>, merged: &mut Vec<T>)
 }
 
 // The same of two queues.
-fn merge_queues<T: Ord + Drop>(
-    mut left: VecDeque<T>,
-    mut right: VecDeque<T>,
-    merged: &mut Vec<T>,
-)
+fn merge_queues<T: Ord + Drop>(mut left: VecDeque<T>, mut right: VecDeque<T>, merged: &mut Vec<T>)
     requires ascending { IsStrictlySortedBy T.cmp right.items }
     requires room { vec_len merged.old + deque_len left + deque_len right ≤ vec_capacity merged.old }
     ensures { merged.new.items ≡ merged.old.items ++ sets T.cmp left.items right.items }
