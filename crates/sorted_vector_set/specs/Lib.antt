@@ -2,3 +2,4 @@ pub mod Content
 pub mod Calls
 pub mod Hints
 pub mod Lazy
+pub mod Streams
