@@ -3,7 +3,7 @@ use Rattle.std.specs.List.Sorted.{IsStrictlySortedBy}
 use Rattle.std.specs.Vec.{vec_len}
 use Rattle.std.proofs.lemmas.Bool.Decides.{nat_tests}
 use Rattle.ordered_lists.specs.Lists.{sets}
-use Rattle.ordered_lists.proofs.MergeLemmas.{sets_ascend, sets_none, no_item}
+use Rattle.ordered_lists.proofs.MergeLemmas.{merged_behind, sets_ascend, sets_none, no_item}
 use Rattle.ordered_lists.proofs.StableLemmas.{sorted_ascending}
 use Rattle.sorted_vector_set.specs.Content.{Content}
 use Rattle.sorted_vector_set.proofs.set.SortedVectorSet.append.Goals as goal
@@ -15,8 +15,7 @@ pub merge_in-requires-clause-whole : goal.merge_in-requires-clause-whole
 merge_in-requires-clause-whole g c =
     let cmp = g.T.Ord.cmp in
     let given : c.replace-new.result.items ≡ c.deref.result.now = ap (λ (v : _). v.items) c.replace-new.ensures.value ∙ sym c.deref.ensures.value in
-    let joined : c.open_for.new.self.items ++ sets cmp c.in-Some.tail.items c.replace-new.result.items ≡ sets cmp c.args.self.now.items c.deref.result.now =
-    ap (λ t. c.open_for.new.self.items ++ sets cmp c.in-Some.tail.items t) given ∙ sym (c.in-Some.ensures.stays c.in-Some.tail.items) ∙ ap (λ t. sets cmp t c.deref.result.now) (sym c.in-Some.ensures.parts) in
+    let joined = merged_behind cmp c.args.self.now.items c.open_for.new.self.items c.in-Some.tail.items c.deref.result.now c.replace-new.result.items c.in-Some.ensures.parts c.in-Some.ensures.stays (ap (sets cmp c.in-Some.tail.items) given) in
     subst (IsStrictlySortedBy cmp) (sym joined) (sets_ascend cmp g.met.T.Ord.total c.args.self.now.items c.deref.result.now c.in-Some.ensures.ascending)
 
 pub invariant_of-other-2 : goal.invariant_of-other-2

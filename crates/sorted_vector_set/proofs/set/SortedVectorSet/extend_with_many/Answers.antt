@@ -1,7 +1,7 @@
 use Rattle.std.proofs.Common.{◌≡◌, [], arith, ◌++◌, sym, ap, ◌∙◌, subst}
 use Rattle.std.specs.List.Sorted.{IsStrictlySortedBy}
 use Rattle.ordered_lists.specs.Lists.{sets}
-use Rattle.ordered_lists.proofs.MergeLemmas.{sets_ascend, sets_none, no_item}
+use Rattle.ordered_lists.proofs.MergeLemmas.{merged_behind, sets_ascend, sets_none, no_item}
 use Rattle.ordered_lists.proofs.StableLemmas.{sorted_sets}
 use Rattle.sorted_vector_set.specs.Content.{Content}
 use Rattle.sorted_vector_set.proofs.set.SortedVectorSet.extend_with_many.Goals as goal
@@ -9,17 +9,15 @@ use Rattle.sorted_vector_set.proofs.set.SortedVectorSet.extend_with_many.Goals a
 pub merge_in-requires-clause-whole : goal.merge_in-requires-clause-whole
 merge_in-requires-clause-whole g c =
     let cmp = g.T.Ord.cmp in
-    let joined : c.open_for.new.self.items ++ sets cmp c.in-Some.tail.items c.keep_last-2.new.items.items ≡ sets cmp c.args.self.now.items c.deref.result.now =
-    ap (λ t. c.open_for.new.self.items ++ t) (c.keep_last-2.ensures.same c.in-Some.tail.items ∙ ap (sets cmp c.in-Some.tail.items) (sym c.deref.ensures.value))
-    ∙ sym (c.in-Some.ensures.stays c.in-Some.tail.items) ∙ ap (λ t. sets cmp t c.deref.result.now) (sym c.in-Some.ensures.parts) in
+    let kept = c.keep_last-2.ensures.same c.in-Some.tail.items ∙ ap (sets cmp c.in-Some.tail.items) (sym c.deref.ensures.value) in
+    let joined = merged_behind cmp c.args.self.now.items c.open_for.new.self.items c.in-Some.tail.items c.deref.result.now c.keep_last-2.new.items.items c.in-Some.ensures.parts c.in-Some.ensures.stays kept in
     subst (IsStrictlySortedBy cmp) (sym joined) (sets_ascend cmp g.met.T.Ord.total c.args.self.now.items c.deref.result.now c.in-Some.ensures.ascending)
 
 pub returns-clause-items : goal.returns-clause-items
 returns-clause-items g c =
     let cmp = g.T.Ord.cmp in
-    let joined : c.open_for.new.self.items ++ sets cmp c.in-Some.tail.items c.keep_last-2.new.items.items ≡ sets cmp c.args.self.now.items c.deref.result.now =
-    ap (λ t. c.open_for.new.self.items ++ t) (c.keep_last-2.ensures.same c.in-Some.tail.items ∙ ap (sets cmp c.in-Some.tail.items) (sym c.deref.ensures.value))
-    ∙ sym (c.in-Some.ensures.stays c.in-Some.tail.items) ∙ ap (λ t. sets cmp t c.deref.result.now) (sym c.in-Some.ensures.parts) in
+    let kept = c.keep_last-2.ensures.same c.in-Some.tail.items ∙ ap (sets cmp c.in-Some.tail.items) (sym c.deref.ensures.value) in
+    let joined = merged_behind cmp c.args.self.now.items c.open_for.new.self.items c.in-Some.tail.items c.deref.result.now c.keep_last-2.new.items.items c.in-Some.ensures.parts c.in-Some.ensures.stays kept in
     c.merge_in.ensures ∙ joined ∙ ap (sets cmp c.args.self.now.items) c.deref.ensures.value ∙ sorted_sets cmp g.met.T.Ord.total c.args.self.now.items _ _ c.in-Some.ensures.ascending c.sort.ensures.stable
 
 pub returns-then-capacity-eq0-clause-items : goal.returns-then-capacity-eq0-clause-items
