@@ -1,5 +1,5 @@
 -- A map of clones is equal to the map where clones are.
-use Rattle.std.proofs.Common.{Bool, List, [], ◌∷◌, refl}
+use Rattle.std.proofs.Common.{Bool, [], ◌∷◌, refl}
 use Rattle.sorted_vector_map.specs.Cloned.{ClonesAreEqual}
 
 module _ {K V : Type 0} (is_key_clone : K → K → Type 0) (is_value_clone : V → V → Type 0) (key_eq : K → K → Bool) (value_eq : V → V → Bool) where

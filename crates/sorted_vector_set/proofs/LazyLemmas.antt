@@ -1,5 +1,5 @@
 -- One step of a walk along two sets, whose items are read through references.
-use Rattle.std.proofs.Common.{◌≡◌, ℕ, ◌≤◌, inl, inr, Bool, true, false, List, [], ◌∷◌, ◌++◌, map, length, Option, Some, None, MatchOption, IfSome, option_to_list, refl, sym, ap, ap₂, subst, ◌∙◌, append_assoc, true≢false, arith}
+use Rattle.std.proofs.Common.{◌≡◌, ℕ, ◌≤◌, inl, inr, Bool, true, false, List, [], ◌∷◌, ◌++◌, map, length, Option, Some, None, MatchOption, IfSome, IfNone, option_to_list, refl, sym, ap, ap₂, subst, ◌∙◌, append_assoc, true≢false, arith}
 use Rattle.std.specs.Borrow.{Bor}
 use Rattle.std.specs.Cmp.{IsTotalOrder}
 use Rattle.std.specs.Iterator.{YieldsFirstBy, MakesProgress, UpTo, at_most, item_count, Drains, Yields}
@@ -57,6 +57,16 @@ module _ {S A B : Type 0} (view : A → B) (rest : S → List B) where
       nil [] = refl
       nil (y ∷ l) = ap (λ k. y ∷ k) (nil l)
 
+where_none : {A P Q : Type 0} (r : Option A) → (P → Q) → IfNone r P → IfNone r Q
+where_none None f h = f h
+where_none (Some x) f h = h
+
+-- what is left before and after, where one item came or none is left
+told : {T : Type 0} (r : Option (Bor T)) (before after : List T) → IfNone r (after ≡ []) → before ≡ map deref (option_to_list r) ++ after
+    → MatchOption r ((before ≡ []) × (after ≡ [])) (λ x. before ≡ x.now ∷ after)
+told None before after over e = (e ∙ over, over)
+told (Some x) before after over e = e
+
 module _ {T : Type 0} where
   reads_rest : (xs : List (Bor T)) (a b : Bool) (s t : Iter T) → (a ≡ true → iter_rest s ≡ []) → Reads (iter_steps {A = T}) a s xs b t → (iter_rest s ≡ map deref xs ++ iter_rest t) × (b ≡ true → iter_rest t ≡ [])
   reads_rest [] a b s t over (inl e) = (ap iter_rest e.1, λ z. subst (λ k. iter_rest k ≡ []) e.1 (over (e.0 ∙ z)))
@@ -92,9 +102,6 @@ module _ {T : Type 0} where
   follows_read h = map-append deref (pending h.head) (map pointing (iter_rest h.source)) ∙ ap (λ l. map deref (pending h.head) ++ l) (read_back (iter_rest h.source))
 
   module _ (cmp : T → T → Ordering) (left both right : Bool) (f : List T → List T → List T) (equal : (xs ys : List T) → IsStrictlySortedBy cmp xs → IsStrictlySortedBy cmp ys → walk cmp left both right xs ys ≡ f xs ys) where
-    given : Sides (Iter T) (Iter T) (Bor T) (Bor T) → List T
-    given s = f (left_of s.left) (left_of s.right)
-
     on_views : (s : Sides (Iter T) (Iter T) (Bor T) (Bor T)) → AreSides cmp s → map deref (walk (by_view deref cmp) left both right (to_follow s.left) (to_follow s.right)) ≡ f (left_of s.left) (left_of s.right)
     on_views s k = view-walk deref cmp left both right (to_follow s.left) (to_follow s.right) ∙ ap₂ (walk cmp left both right) (follows_read s.left) (follows_read s.right) ∙ equal _ _ k.0.ascends k.1.ascends
 
@@ -112,18 +119,8 @@ module _ {T : Type 0} where
         sym (equal _ _ h.0.ascends h.1.ascends) ∙ sym (ap₂ (walk cmp left both right) a b) ∙ sym (view-walk deref cmp left both right (k.went.us ++ xs) (k.went.vs ++ ys))
         ∙ ap (map deref) (k.went.gave xs ys (follows t.left sides.0) (follows t.right sides.1)) ∙ map-append deref (option_to_list r) (walk (by_view deref cmp) left both right xs ys)
         ∙ ap (λ z. map deref (option_to_list r) ++ z) (on_views t sides) in
-        (sides, told r (λ e. sym (on_views t sides) ∙ ap (map deref) e) (k.ended) whole)
-      where
-        told : (o : Option (Bor T)) → (walk (by_view deref cmp) left both right (to_follow t.left) (to_follow t.right) ≡ [] → f (left_of t.left) (left_of t.right) ≡ [])
-            → MatchOption o ((xs ys : List (Bor T)) → MayFollow t.left xs → MayFollow t.right ys → walk (by_view deref cmp) left both right xs ys ≡ []) (λ _. Unit {0})
-            → f (left_of s.left) (left_of s.right) ≡ map deref (option_to_list o) ++ f (left_of t.left) (left_of t.right)
-            → MatchOption o ((f (left_of s.left) (left_of s.right) ≡ []) × (f (left_of t.left) (left_of t.right) ≡ [])) (λ x. f (left_of s.left) (left_of s.right) ≡ x.now ∷ f (left_of t.left) (left_of t.right))
-        told None none ended e =
-            let l = side_step s.left t.left k.went.us k.went.passed_left h.0 in
-            let m = side_step s.right t.right k.went.vs k.went.passed_right h.1 in
-            let over = none (ended _ _ (follows t.left l.0) (follows t.right m.0)) in
-            (e ∙ over, over)
-        told (Some x) none ended e = e
+        let over = where_none r (λ spent. sym (on_views t sides) ∙ ap (map deref) (spent xs ys (follows t.left sides.0) (follows t.right sides.1))) k.ended in
+        (sides, told r _ _ over whole)
 
 -- hints, by how many items are left of both sides
 upto : (h : Option ℕ) (n : ℕ) → IfSome h (λ k. n ≤ k) → IfSome h (UpTo (at_most n))

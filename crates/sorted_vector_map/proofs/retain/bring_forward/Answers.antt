@@ -1,4 +1,4 @@
-use Rattle.std.proofs.Common.{◌≡◌, ◌+◌, ◌<◌, Bool, length, get_or, take, drop, subst, arith}
+use Rattle.std.proofs.Common.{◌+◌, ◌<◌, Bool, length, get_or, take, drop, subst, arith}
 use Rattle.std.specs.Map.Calls.{CalledAtPair}
 use Rattle.ordered_lists.proofs.RetainLemmas.{begun, before_item, passes, fails, at_end}
 use Rattle.sorted_vector_map.proofs.RetainLemmas.{AtPair, pairs_called, pairs_retained}

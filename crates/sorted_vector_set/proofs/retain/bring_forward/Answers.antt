@@ -1,4 +1,4 @@
-use Rattle.std.proofs.Common.{◌≡◌, ◌+◌, ◌<◌, Bool, length, get_or, set, take, drop, refl, sym, subst, arith}
+use Rattle.std.proofs.Common.{◌≡◌, ◌+◌, ◌<◌, Bool, length, get_or, set, take, drop, refl, subst, arith}
 use Rattle.std.specs.Fn.{CalledAt}
 use Rattle.std.specs.List.{swap}
 use Rattle.ordered_lists.proofs.RetainLemmas.{HasComeTo, begun, before_item, passes, fails, at_end, same_set}

@@ -1,4 +1,4 @@
-use Rattle.std.proofs.Common.{◌≡◌, [], arith, ◌++◌, sym, ap, ◌∙◌, subst}
+use Rattle.std.proofs.Common.{◌≡◌, [], arith, sym, ap, ◌∙◌, subst}
 use Rattle.std.specs.List.Sorted.{IsStrictlySortedBy}
 use Rattle.ordered_lists.specs.Lists.{by_key, sets}
 use Rattle.ordered_lists.proofs.PairLemmas.{by_key_total}
