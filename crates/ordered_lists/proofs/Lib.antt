@@ -9,3 +9,5 @@ pub mod ViewLemmas
 pub mod HeapLemmas
 pub mod PermutationLemmas
 pub mod CountLemmas
+pub mod RetainLemmas
+pub mod CloneLemmas

@@ -1,5 +1,5 @@
 -- Placing the items of a second list in order is a merge.
-use Rattle.std.proofs.Common.{◌≡◌, zero, ◌<◌, List, [], ◌∷◌, ◌++◌, length, Option, Some, None, IsSome, refl, ap, ◌∙◌, subst, arith}
+use Rattle.std.proofs.Common.{◌≡◌, zero, ◌<◌, List, [], ◌∷◌, ◌++◌, length, Option, Some, None, IsSome, refl, sym, ap, ◌∙◌, subst, arith}
 use Rattle.std.specs.declared.cmp.Ordering.{Ordering}
 use Rattle.std.specs.declared.cmp.Ordering.TheVariants.{Less, Equal, Greater}
 use Rattle.std.specs.Cmp.{IsTotalOrder}
@@ -30,6 +30,11 @@ module _ {A : Type 0} (cmp : A → A → Ordering) where
   unfolding IsStrictlySortedBy
   sets_none [] a = refl
   sets_none (y ∷ ys) a = sets_skip y [] ys a.0 ∙ ap (λ t. y ∷ t) (sets_none ys a.1)
+
+  -- a merge of a tail with the new items, behind a front that stays, gives all; `kept` may stand for the new items
+  pub merged_behind : (whole front tail new kept : List A) → whole ≡ front ++ tail → ((l : List A) → sets cmp (front ++ l) new ≡ front ++ sets cmp l new) → sets cmp tail kept ≡ sets cmp tail new
+      → front ++ sets cmp tail kept ≡ sets cmp whole new
+  merged_behind whole front tail new kept parts stays same = ap (λ t. front ++ t) same ∙ sym (stays tail) ∙ ap (λ t. sets cmp t new) (sym parts)
 
   module _ (o : IsTotalOrder cmp) where
     pub sets_ascend : (xs ys : List A) → IsStrictlySortedBy cmp xs → IsStrictlySortedBy cmp (sets cmp xs ys)

@@ -7,6 +7,7 @@ use Rattle.std.specs.declared.cmp.Ordering.{Ordering}
 use Rattle.std.specs.declared.cmp.Ordering.TheVariants.{Less, Equal, Greater}
 use Rattle.std.specs.Ordering.{match_ordering, is_eq}
 use Rattle.ordered_lists.specs.Lists.{find, has, add, union, intersection, difference, symmetric_difference}
+use Rattle.ordered_lists.specs.Walks.{keep, walk_from, walk}
 
 module _ {A B : Type 0} (view : A → B) (cmp : B → B → Ordering) where
   abbrev pub by_view : A → A → Ordering
@@ -59,3 +60,28 @@ module _ {A B : Type 0} (view : A → B) (cmp : B → B → Ordering) where
 
   pub view-symmetric_difference : (xs ys : List A) → map view (symmetric_difference by_view xs ys) ≡ symmetric_difference cmp (map view xs) (map view ys)
   view-symmetric_difference xs ys = view-union (difference by_view xs ys) (difference by_view ys xs) ∙ ap₂ (union cmp) (view-difference xs ys) (view-difference ys xs)
+
+  module _ (left both right : Bool) where
+    view-if : (b : Bool) (xs : List A) → map view (cond b xs []) ≡ cond b (map view xs) []
+    view-if true xs = refl
+    view-if false xs = refl
+
+    view-keep : (b : Bool) (x : A) (xs : List A) (ys : List B) → map view xs ≡ ys → map view (keep b x xs) ≡ keep b (view x) ys
+    view-keep true x xs ys e = ap (λ l. view x ∷ l) e
+    view-keep false x xs ys e = e
+
+    view-walk_from : (x : A) (xs : List A) (on : List A → List A) (on' : List B → List B) → ((ys : List A) → map view (on ys) ≡ on' (map view ys)) → (ys : List A)
+        → map view (walk_from by_view left both right x xs on ys) ≡ walk_from cmp left both right (view x) (map view xs) on' (map view ys)
+    view-walk_from x xs on on' same [] = view-if left (x ∷ xs)
+    view-walk_from x xs on on' same (y ∷ ys) = go (cmp (view x) (view y)) (same (y ∷ ys)) (same ys) (view-walk_from x xs on on' same ys)
+      where
+        go : (r : Ordering) → map view (on (y ∷ ys)) ≡ on' (view y ∷ map view ys) → map view (on ys) ≡ on' (map view ys) → map view (walk_from by_view left both right x xs on ys) ≡ walk_from cmp left both right (view x) (map view xs) on' (map view ys)
+            → map view (match_ordering r (keep left x (on (y ∷ ys))) (keep both x (on ys)) (keep right y (walk_from by_view left both right x xs on ys)))
+            ≡ match_ordering r (keep left (view x) (on' (view y ∷ map view ys))) (keep both (view x) (on' (map view ys))) (keep right (view y) (walk_from cmp left both right (view x) (map view xs) on' (map view ys)))
+        go Less e f g = view-keep left x _ _ e
+        go Equal e f g = view-keep both x _ _ f
+        go Greater e f g = view-keep right y _ _ g
+
+    pub view-walk : (xs ys : List A) → map view (walk by_view left both right xs ys) ≡ walk cmp left both right (map view xs) (map view ys)
+    view-walk [] ys = view-if right ys
+    view-walk (x ∷ xs) ys = view-walk_from x xs (walk by_view left both right xs) (walk cmp left both right (map view xs)) (view-walk xs) ys

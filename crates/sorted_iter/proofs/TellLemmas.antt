@@ -8,7 +8,7 @@ use Rattle.ordered_lists.specs.Lists.{has, intersection, difference}
 use Rattle.sorted_iter.specs.Orders.{RunsAre, ListsAre}
 use Rattle.sorted_iter.specs.Subsets.{are_disjoint, is_within, is_around, TellsOfRuns, TellsOfLists}
 
-abbrev is_nil : {A : Type 0} → List A → Bool
+abbrev pub is_nil : {A : Type 0} → List A → Bool
 is_nil [] = true
 is_nil (x ∷ xs) = false
 
@@ -34,7 +34,7 @@ nil-cond : {A : Type 0} (b : Bool) (x : A) (xs ys : List A) (r : Bool) → r ≡
 nil-cond true x xs ys r h = refl
 nil-cond false x xs ys r h = h
 
-none-filter : {A : Type 0} (p : A → Bool) (xs : List A) → list_all (λ x. not (p x)) xs ≡ is_nil (filter p xs)
+pub none-filter : {A : Type 0} (p : A → Bool) (xs : List A) → list_all (λ x. not (p x)) xs ≡ is_nil (filter p xs)
 none-filter p [] = refl
 none-filter p (x ∷ xs) = nil-cond (p x) x (filter p xs) (filter p xs) (list_all (λ z. not (p z)) xs) (none-filter p xs)
 
@@ -42,7 +42,7 @@ not_nil-cond : {A : Type 0} (b : Bool) (x : A) (xs ys : List A) (r : Bool) → r
 not_nil-cond true x xs ys r h = h
 not_nil-cond false x xs ys r h = refl
 
-all-filter : {A : Type 0} (p : A → Bool) (xs : List A) → list_all p xs ≡ is_nil (filter (λ x. not (p x)) xs)
+pub all-filter : {A : Type 0} (p : A → Bool) (xs : List A) → list_all p xs ≡ is_nil (filter (λ x. not (p x)) xs)
 all-filter p [] = refl
 all-filter p (x ∷ xs) = not_nil-cond (p x) x (filter (λ z. not (p z)) xs) (filter (λ z. not (p z)) xs) (list_all p xs) (all-filter p xs)
 

@@ -27,7 +27,7 @@ pub use crate::multiway::InputHead;
 pub use crate::multiway::{MultiwayUnion, multiway_union};
 pub use crate::pairs::Pairs;
 #[doc(hidden)]
-pub use crate::sides::Sides;
+pub use crate::sides::{Sides, Wants};
 pub use crate::symmetric_difference::SymmetricDifference;
 pub use crate::union::Union;
 

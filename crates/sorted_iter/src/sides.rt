@@ -10,15 +10,15 @@ use std::cmp::Ordering;
 
 /// Which items a walk gives.
 #[derive(Clone, Copy)]
-pub(crate) struct Wants {
+pub struct Wants {
     /// The left items to which no right one is equal.
-    pub(crate) left: bool,
+    pub left: bool,
 
     /// Of two equal items, the left one.
-    pub(crate) both: bool,
+    pub both: bool,
 
     /// The right items to which no left one is equal.
-    pub(crate) right: bool,
+    pub right: bool,
 }
 
 /// The two sources of a stream.
@@ -58,7 +58,7 @@ where
     /// The next item of the walk that is wanted. It asks each source at most once for each item that it passes over,
     /// and takes no memory of its own.
     #[inline(always)]
-    pub(crate) fn next(&mut self, wants: Wants) -> Option<I::Item>
+    pub fn next(&mut self, wants: Wants) -> Option<I::Item>
         requires { sides_can I.can_next I.remaining J.can_next J.remaining self.old }
         ensures steps { StepsTwo (walk I.Item.cmp wants.left wants.both wants.right) I.next_gives
             J.next_gives self.old result self.new }

@@ -1,33 +1,6 @@
--- A list that ascends, where each item gives way to an equal one.
-use Rattle.std.proofs.Common.{◌≡◌, Bool, true, List, [], ◌∷◌, refl, ◌∙◌}
-use Rattle.std.specs.declared.cmp.Ordering.{Ordering}
-use Rattle.std.specs.declared.cmp.Ordering.TheVariants.{Less, Equal, Greater}
-use Rattle.std.specs.Cmp.{IsTotalOrder}
-use Rattle.std.specs.List.{AllByRecursion, AllZip}
-use Rattle.std.specs.List.Sorted.{IsStrictlySortedBy}
-use Rattle.std.specs.Ordering.{is_eq}
-use Rattle.std.proofs.lemmas.Cmp.{alike_right}
+-- A map of clones is equal to the map where clones are.
+use Rattle.std.proofs.Common.{Bool, [], ◌∷◌, refl}
 use Rattle.sorted_vector_map.specs.Cloned.{ClonesAreEqual}
-
-pub equal_is : (r : Ordering) → is_eq r ≡ true → r ≡ Equal
-equal_is Less e = cc
-equal_is Equal e = refl
-equal_is Greater e = cc
-
-module _ {A : Type 0} (cmp : A → A → Ordering) (order : IsTotalOrder cmp) (R : A → A → Type 0) (equal : (x y : A) → R x y → cmp y x ≡ Equal) where
-  stays_below : (x y : A) → R x y → (xs ys : List A) → AllZip R xs ys → AllByRecursion (λ z. cmp x z ≡ Less) xs → AllByRecursion (λ z. cmp y z ≡ Less) ys
-  stays_below x y cloned [] [] each all = tt
-  stays_below x y cloned [] (z ∷ ys) each all = absurd each
-  stays_below x y cloned (z ∷ xs) [] each all = absurd each
-  stays_below x y cloned (z ∷ xs) (w ∷ ys) each all =
-      (order.congr y x w (equal x y cloned) ∙ alike_right order w z x (equal z w each.0) ∙ all.0, stays_below x y cloned xs ys each.1 all.1)
-
-  pub equals_ascend : (xs ys : List A) → AllZip R xs ys → IsStrictlySortedBy cmp xs → IsStrictlySortedBy cmp ys
-  unfolding IsStrictlySortedBy
-  equals_ascend [] [] each a = tt
-  equals_ascend [] (y ∷ ys) each a = absurd each
-  equals_ascend (x ∷ xs) [] each a = absurd each
-  equals_ascend (x ∷ xs) (y ∷ ys) each a = (stays_below x y each.0 xs ys each.1 a.0, equals_ascend xs ys each.1 a.1)
 
 module _ {K V : Type 0} (is_key_clone : K → K → Type 0) (is_value_clone : V → V → Type 0) (key_eq : K → K → Bool) (value_eq : V → V → Bool) where
   pub clones_equal : ClonesAreEqual is_key_clone is_value_clone key_eq value_eq

@@ -2,7 +2,6 @@ pub mod Content
 pub mod Lent
 pub mod Grown
 pub mod Cloned
-pub mod Bounds
 pub mod Hints
 pub mod Coming
 pub mod Entry

@@ -5,9 +5,9 @@ ghost use Rattle.std.specs.List.Sorted.{IsStrictlySortedBy};
 ghost use Rattle.std.specs.Map.Iter.{deref_pair};
 ghost use Rattle.std.specs.Ordering.{is_lt, is_le};
 ghost use Rattle.std.specs.Range.Bound.{bound_map};
+ghost use Rattle.ordered_lists.specs.Bounds.{is_before, is_within, pairs_within, AreInOrder};
 ghost use Rattle.ordered_lists.specs.Lists.{by_key};
 ghost use Rattle.ordered_lists.specs.Search.{IsCutAt};
-ghost use Rattle.sorted_vector_map.specs.Bounds.{is_before, is_within, pairs_within, AreInOrder};
 ghost use Rattle.sorted_vector_map.specs.Coming.{ComesByReference};
 
 use crate::iters::Iter;

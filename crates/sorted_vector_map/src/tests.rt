@@ -2,7 +2,7 @@
 ghost use Rattle.std.specs.Prelude.{◌≡◌, IfOk, map};
 ghost use Rattle.std.specs.Ordering.{nat_cmp};
 ghost use Rattle.std.specs.Range.Bound.{bound_map};
-ghost use Rattle.sorted_vector_map.specs.Bounds.{AreInOrder};
+ghost use Rattle.ordered_lists.specs.Bounds.{AreInOrder};
 
 use crate::callers::{
     clone_is_equal, put_and_read, read_or_default, read_or_fill, read_or_insert,

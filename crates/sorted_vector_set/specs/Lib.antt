@@ -1,1 +1,5 @@
 pub mod Content
+pub mod Calls
+pub mod Hints
+pub mod Lazy
+pub mod Streams

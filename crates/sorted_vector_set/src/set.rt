@@ -1,13 +1,11 @@
-//! The set: making one, looking into it, and putting items in.
-ghost use Rattle.std.specs.Prelude.{Some, ◌≡◌, ◌≤◌, ◌+◌, ◌==◌, not, [], length, slice_get, slice_set, IsTrue, IsOk, IfOk, IfErr, is_ok, if◌then◌else◌};
-ghost use Rattle.std.specs.List.{insert as list_insert};
-ghost use Rattle.ordered_lists.specs.Lists.{find, has, set};
-ghost use Rattle.ordered_lists.specs.Search.{IsFound, IsMissing};
+//! The set: making one, putting items in, and taking them out.
+ghost use Rattle.std.specs.Prelude.{◌≡◌, ◌≤◌, ◌+◌, ◌==◌, not, [], length, IsTrue, IsOk, IfOk, IfErr, is_ok, if◌then◌else◌};
+ghost use Rattle.std.specs.List.Sorted.{IsStrictlySortedBy};
+ghost use Rattle.ordered_lists.specs.Lists.{find, has, set, take_out};
 
 use element_core::{NoMemory, Refused};
 use std::alloc::Global;
 use std::marker::Model;
-use std::mem::replace;
 
 /// A set whose items lie in one vector, in ascending order. Equal items may differ in what their comparison
 /// doesn't look at, so each call says which one stays.
@@ -51,6 +49,24 @@ impl<T: Ord> SortedVectorSet<T> {
         Ok(SortedVectorSet { items })
     }
 
+    /// The vector of the items, in ascending order. It takes O(1) time and no memory.
+    pub fn into_inner(self) -> Vec<T>
+        ensures items { result.items ≡ self.items }
+        ensures ascending { IsStrictlySortedBy T.cmp result.items }
+    {
+        self.items
+    }
+
+    /// Takes all items out, in O(n) time. Their room stays.
+    pub fn clear(&mut self)
+    where
+        T: Drop,
+        ensures items { self.new.items ≡ [] }
+        ensures spare { self.old.spare ≤ self.new.spare }
+    {
+        self.items.clear();
+    }
+
     /// The number of items, in O(1) time and without memory.
     pub fn len(&self) -> usize
         ensures { result ≡ length self.now.items }
@@ -63,13 +79,6 @@ impl<T: Ord> SortedVectorSet<T> {
         ensures { result ≡ (length self.now.items == 0) }
     {
         self.items.is_empty()
-    }
-
-    /// Whether an item is equal to `q`, in O(log n) comparisons and without memory.
-    pub fn contains(&self, q: &T) -> bool
-        ensures { result ≡ has T.cmp self.now.items q.now }
-    {
-        self.search(q).is_ok()
     }
 
     /// Puts `value` in the place of the item that is equal to it, and answers that item. Without one, `value` is put
@@ -114,48 +123,27 @@ impl<T: Ord> SortedVectorSet<T> {
         Ok(old.is_none())
     }
 
-    // The place of the item that is equal to q, or else that of q.
-    pub(crate) fn search(&self, q: &T) -> Result<usize, usize>
-        ensures found { IfOk result (IsFound (λ x. x) T.cmp self.now.items q.now) }
-        ensures missing { IfErr result (IsMissing (λ x. x) T.cmp self.now.items q.now) }
+    /// Takes the item that is equal to `value` out, or answers `None` where there is none, in O(log n) comparisons. The
+    /// items behind it move. It takes no memory.
+    pub fn take(&mut self, value: &T) -> Option<T>
+        ensures items { self.new.items ≡ take_out T.cmp self.old.items value.now }
+        ensures taken { result ≡ find T.cmp self.old.items value.now }
+        ensures spare { self.old.spare ≤ self.new.spare }
     {
-        self.items.binary_search(q)
-    }
-
-    // The same. Items often come in order, so the end is tried first.
-    fn place_of(&self, q: &T) -> Result<usize, usize>
-        ensures found { IfOk result (IsFound (λ x. x) T.cmp self.now.items q.now) }
-        ensures missing { IfErr result (IsMissing (λ x. x) T.cmp self.now.items q.now) }
-    {
-        if let Some(last) = self.items.last() {
-            if last.cmp(q).is_lt() {
-                return Err(self.items.len());
-            }
+        match self.search(value) {
+            Ok(at) => Some(self.remove_at(at)),
+            Err(_) => None,
         }
-        self.search(q)
     }
 
-    fn replace_at(&mut self, at: usize, value: T) -> T
-        requires { IsFound (λ x. x) T.cmp self.old.items value at }
-        ensures items { self.new.items ≡ slice_set self.old.items at value }
-        ensures value { slice_get self.old.items at ≡ Some result }
-        ensures spare { self.new.spare ≡ self.old.spare }
+    /// Takes the item that is equal to `value` out, and answers whether there was one. It costs what `take` costs.
+    pub fn remove(&mut self, value: &T) -> bool
+    where
+        T: Drop,
+        ensures items { self.new.items ≡ take_out T.cmp self.old.items value.now }
+        ensures removed { result ≡ has T.cmp self.old.items value.now }
+        ensures spare { self.old.spare ≤ self.new.spare }
     {
-        replace(&mut self.items[at], value)
-    }
-
-    fn insert_at(&mut self, at: usize, value: T) -> Result<(), Refused<T>>
-        requires { IsMissing (λ x. x) T.cmp self.old.items value at }
-        ensures items { self.new.items ≡ (if is_ok result then list_insert self.old.items at value else self.old.items) }
-        ensures given { IfErr result (λ refused. refused.given ≡ value) }
-        ensures roomy { 1 ≤ self.old.spare → IsOk result }
-        ensures spare { self.old.spare ≤ self.new.spare + (if is_ok result then 1 else 0) }
-    {
-        if let Err(refused) = self.items.insert(at, value) {
-            return Err(Refused {
-                given: refused.value,
-            });
-        }
-        Ok(())
+        self.take(value).is_some()
     }
 }

@@ -1,8 +1,8 @@
-use Rattle.std.proofs.Common.{◌≡◌, [], arith, ◌++◌, sym, ap, ◌∙◌, subst}
+use Rattle.std.proofs.Common.{◌≡◌, [], arith, sym, ap, ◌∙◌, subst}
 use Rattle.std.specs.List.Sorted.{IsStrictlySortedBy}
 use Rattle.ordered_lists.specs.Lists.{by_key, sets}
 use Rattle.ordered_lists.proofs.PairLemmas.{by_key_total}
-use Rattle.ordered_lists.proofs.MergeLemmas.{sets_ascend, sets_none, no_item}
+use Rattle.ordered_lists.proofs.MergeLemmas.{merged_behind, sets_ascend, sets_none, no_item}
 use Rattle.std.proofs.lemmas.Bool.Decides.{nat_tests}
 use Rattle.std.specs.Vec.{vec_len}
 use Rattle.sorted_vector_map.specs.Content.{Content}
@@ -15,8 +15,7 @@ open_for-requires g c = rw c.deref.ensures.value (sorted_ascending (by_key g.K.O
 pub merge_in-requires-clause-whole : goal.merge_in-requires-clause-whole
 merge_in-requires-clause-whole g c =
     let given : c.replace-new.result.items ≡ c.deref.result.now = ap (λ (v : _). v.items) c.replace-new.ensures.value ∙ sym c.deref.ensures.value in
-    let joined : c.open_for.new.self.pairs ++ sets (by_key g.K.Ord.cmp) c.in-Some.tail.items c.replace-new.result.items ≡ sets (by_key g.K.Ord.cmp) c.args.self.now.pairs c.deref.result.now =
-    ap (λ t. c.open_for.new.self.pairs ++ sets (by_key g.K.Ord.cmp) c.in-Some.tail.items t) given ∙ sym (c.in-Some.ensures.stays c.in-Some.tail.items) ∙ ap (λ t. sets (by_key g.K.Ord.cmp) t c.deref.result.now) (sym c.in-Some.ensures.parts) in
+    let joined = merged_behind (by_key g.K.Ord.cmp) c.args.self.now.pairs c.open_for.new.self.pairs c.in-Some.tail.items c.deref.result.now c.replace-new.result.items c.in-Some.ensures.parts c.in-Some.ensures.stays (ap (sets (by_key g.K.Ord.cmp) c.in-Some.tail.items) given) in
     subst (IsStrictlySortedBy (by_key g.K.Ord.cmp)) (sym joined) (sets_ascend (by_key g.K.Ord.cmp) (by_key_total g.met.K.Ord.total) c.args.self.now.pairs c.deref.result.now c.in-Some.ensures.ascending)
 
 pub invariant_of-other-2 : goal.invariant_of-other-2

@@ -1,23 +1,21 @@
-use Rattle.std.proofs.Common.{◌≡◌, [], arith, ◌++◌, sym, ap, ◌∙◌, subst}
+use Rattle.std.proofs.Common.{◌≡◌, [], arith, sym, ap, ◌∙◌, subst}
 use Rattle.std.specs.List.Sorted.{IsStrictlySortedBy}
 use Rattle.ordered_lists.specs.Lists.{by_key, sets}
 use Rattle.ordered_lists.proofs.PairLemmas.{by_key_total}
-use Rattle.ordered_lists.proofs.MergeLemmas.{sets_ascend, sets_none, no_item}
+use Rattle.ordered_lists.proofs.MergeLemmas.{merged_behind, sets_ascend, sets_none, no_item}
 use Rattle.sorted_vector_map.specs.Content.{Content}
 use Rattle.sorted_vector_map.proofs.map.SortedVectorMap.extend_with_many.Goals as goal
 
 pub merge_in-requires-clause-whole : goal.merge_in-requires-clause-whole
 merge_in-requires-clause-whole g c =
-    let joined : c.open_for.new.self.pairs ++ sets (by_key g.K.Ord.cmp) c.in-Some.tail.items c.keep_last-2.new.items.items ≡ sets (by_key g.K.Ord.cmp) c.args.self.now.pairs c.deref.result.now =
-    ap (λ t. c.open_for.new.self.pairs ++ t) (c.keep_last-2.ensures.same c.in-Some.tail.items ∙ ap (sets (by_key g.K.Ord.cmp) c.in-Some.tail.items) (sym c.deref.ensures.value))
-    ∙ sym (c.in-Some.ensures.stays c.in-Some.tail.items) ∙ ap (λ t. sets (by_key g.K.Ord.cmp) t c.deref.result.now) (sym c.in-Some.ensures.parts) in
+    let kept = c.keep_last-2.ensures.same c.in-Some.tail.items ∙ ap (sets (by_key g.K.Ord.cmp) c.in-Some.tail.items) (sym c.deref.ensures.value) in
+    let joined = merged_behind (by_key g.K.Ord.cmp) c.args.self.now.pairs c.open_for.new.self.pairs c.in-Some.tail.items c.deref.result.now c.keep_last-2.new.items.items c.in-Some.ensures.parts c.in-Some.ensures.stays kept in
     subst (IsStrictlySortedBy (by_key g.K.Ord.cmp)) (sym joined) (sets_ascend (by_key g.K.Ord.cmp) (by_key_total g.met.K.Ord.total) c.args.self.now.pairs c.deref.result.now c.in-Some.ensures.ascending)
 
 pub returns-clause-pairs : goal.returns-clause-pairs
 returns-clause-pairs g c =
-    let joined : c.open_for.new.self.pairs ++ sets (by_key g.K.Ord.cmp) c.in-Some.tail.items c.keep_last-2.new.items.items ≡ sets (by_key g.K.Ord.cmp) c.args.self.now.pairs c.deref.result.now =
-    ap (λ t. c.open_for.new.self.pairs ++ t) (c.keep_last-2.ensures.same c.in-Some.tail.items ∙ ap (sets (by_key g.K.Ord.cmp) c.in-Some.tail.items) (sym c.deref.ensures.value))
-    ∙ sym (c.in-Some.ensures.stays c.in-Some.tail.items) ∙ ap (λ t. sets (by_key g.K.Ord.cmp) t c.deref.result.now) (sym c.in-Some.ensures.parts) in
+    let kept = c.keep_last-2.ensures.same c.in-Some.tail.items ∙ ap (sets (by_key g.K.Ord.cmp) c.in-Some.tail.items) (sym c.deref.ensures.value) in
+    let joined = merged_behind (by_key g.K.Ord.cmp) c.args.self.now.pairs c.open_for.new.self.pairs c.in-Some.tail.items c.deref.result.now c.keep_last-2.new.items.items c.in-Some.ensures.parts c.in-Some.ensures.stays kept in
     c.merge_in.ensures ∙ joined ∙ ap (sets (by_key g.K.Ord.cmp) c.args.self.now.pairs) c.deref.ensures.value ∙ c.sort_by_key.ensures.same c.args.self.now.pairs c.in-Some.ensures.ascending
 
 pub returns-then-capacity-eq0-clause-pairs : goal.returns-then-capacity-eq0-clause-pairs

@@ -1,6 +1,7 @@
 use Rattle.std.proofs.Common.{◌≡◌, take, ap, ◌∙◌}
 use Rattle.std.specs.Map.Calls.{CalledAtPair, RetainsPairs}
-use Rattle.sorted_vector_map.proofs.RetainLemmas.{retained_ascends, take_front}
+use Rattle.ordered_lists.proofs.RetainLemmas.{take_front}
+use Rattle.sorted_vector_map.proofs.RetainLemmas.{retained_ascends}
 use Rattle.sorted_vector_map.proofs.map.SortedVectorMap.retain.Goals as goal
 
 pub invariant_of-self : goal.invariant_of-self

@@ -1,9 +1,9 @@
 use Rattle.std.proofs.Common.{◌≡◌, ◌++◌, sym, ap, ◌∙◌, subst}
 use Rattle.std.specs.List.Sorted.{IsStrictlySortedBy}
 use Rattle.ordered_lists.specs.Lists.{by_key}
+use Rattle.ordered_lists.proofs.CloneLemmas.{equal_is, equals_ascend}
 use Rattle.ordered_lists.proofs.PairLemmas.{by_key_total}
 use Rattle.sorted_vector_map.specs.Content.{Content}
-use Rattle.sorted_vector_map.proofs.CloneLemmas.{equal_is, equals_ascend}
 use Rattle.sorted_vector_map.proofs.map.SortedVectorMap.try_clone.Goals as goal
 
 pub invariant_of-result : goal.invariant_of-result

@@ -23,6 +23,10 @@ module _ {K : Type 0} (cmp : K → K → Ordering) where
   abbrev pub pairs_within : {V : Type 0} → Bound K → Bound K → List (K × V) → List (K × V)
   pairs_within low high ps = filter (λ p. not (is_before low p.0) && is_within high p.0) ps
 
+  -- the items between the bounds
+  abbrev pub items_within : Bound K → Bound K → List K → List K
+  items_within low high xs = filter (λ x. not (is_before low x) && is_within high x) xs
+
   -- the low key is at most the high one, and they aren't equal and both excluded
   abbrev pub AreInOrder : Bound K → Bound K → Type 0
   AreInOrder Unbounded high = ⊤

@@ -1,0 +1,261 @@
+//! Putting many items in at once.
+ghost use Rattle.std.specs.Prelude.{true, ◌≡◌, ◌≤◌, ◌+◌, ◌++◌, List, [], ◌∷◌, length, map, take, IsTrue, IsOk, IfSome, IfNone, IfOk, IfErr, OnOk, OnErr, is_ok, if◌then◌else◌};
+ghost use Rattle.std.specs.Borrow.{Bor};
+ghost use Rattle.std.specs.Cmp.Lexicographic.{pointwise};
+ghost use Rattle.std.specs.Iterator.{IsFinite, Drains};
+ghost use Rattle.std.specs.List.{AllZip};
+ghost use Rattle.std.specs.List.Sorted.{IsPermutation, IsSorted, IsStrictlySortedBy};
+ghost use Rattle.std.specs.Map.Iter.{deref};
+ghost use Rattle.std.specs.Vec.{vec_len};
+ghost use Rattle.ordered_lists.specs.Lists.{has, sets};
+
+use crate::merge::{keep_last, merge};
+use crate::set::SortedVectorSet;
+use element_core::{NoMemory, Refused};
+use std::alloc::Global;
+use std::collections::BTreeSet;
+use std::mem::{replace, swap};
+
+impl<T: Ord> SortedVectorSet<T> {
+    /// Puts the items of `new` in. The last of equal items wins, and replaces a stored one.
+    ///
+    /// Where memory is short the set stays and the same items come back, in any order. That never happens without an
+    /// item, nor with one that `insert` would take. It takes O(m log m) comparisons for m new items, and time for the
+    /// items above the least new one.
+    pub fn extend_with_vec(&mut self, new: Vec<T>) -> Result<(), Refused<Vec<T>>>
+    where
+        T: Drop,
+        ensures items { self.new.items ≡ (if is_ok result then sets T.cmp self.old.items new.items else self.old.items) }
+        ensures given { IfErr result (λ refused. IsPermutation new.items refused.given.items) }
+        ensures none { new.items ≡ [] → IsOk result }
+        ensures present { (x : T) → new.items ≡ x ∷ [] → IsTrue (has T.cmp self.old.items x) → IsOk result }
+        ensures roomy { length new.items ≤ 1 → 1 ≤ self.old.spare → IsOk result }
+        ensures spare { length new.items ≤ 1 → self.old.spare ≤ self.new.spare + 1 }
+        ensures kept_spare { (x : T) → new.items ≡ x ∷ [] → IsTrue (has T.cmp self.old.items x) → self.old.spare ≤ self.new.spare }
+    {
+        if new.len() <= 1 {
+            self.extend_with_one(new)
+        } else {
+            self.extend_with_many(new)
+        }
+    }
+
+    /// Puts the items that `iter` gives in, as `extend_with_vec` does, and costs what it costs. The items are collected
+    /// first, in memory of their own.
+    ///
+    /// Where memory is short the set stays, and the items are gone.
+    pub fn extend<I: IntoIterator<Item = T>>(&mut self, iter: I) -> Result<(), NoMemory>
+    where
+        T: Drop,
+        requires { (it : I.IntoIter) → I.into_iter_gives iter it → I.IntoIter.can_next it × IsFinite (I.IntoIter.remaining it) }
+        ensures ok { OnOk result ((it : I.IntoIter) × (new : List T) × I.into_iter_gives iter it × Drains I.IntoIter.next_gives it new × (self.new.items ≡ sets T.cmp self.old.items new)) }
+        ensures err { OnErr result (self.new.items ≡ self.old.items) }
+    {
+        let alloc = *self.items.allocator();
+        let Ok(new) = Vec::from_iter(alloc, iter) else {
+            return Err(NoMemory);
+        };
+        let Ok(()) = self.extend_with_vec(new) else {
+            return Err(NoMemory);
+        };
+        Ok(())
+    }
+
+    /// Puts copies of the items that `iter` gives in, as `extend_with_vec` does, and costs what `extend` costs.
+    ///
+    /// Where memory is short the set stays.
+    pub fn extend_copied<'a, I: IntoIterator<Item = &'a T>>(
+        &mut self,
+        iter: I,
+    ) -> Result<(), NoMemory>
+    where
+        T: Copy + 'a,
+        requires { (it : I.IntoIter) → I.into_iter_gives iter it → I.IntoIter.can_next it × IsFinite (I.IntoIter.remaining it) }
+        ensures ok { OnOk result ((it : I.IntoIter) × (shown : List (Bor T)) × I.into_iter_gives iter it × Drains I.IntoIter.next_gives it shown × (self.new.items ≡ sets T.cmp self.old.items (map deref shown))) }
+        ensures err { OnErr result (self.new.items ≡ self.old.items) }
+    {
+        let alloc = *self.items.allocator();
+        let mut new = Vec::new(alloc);
+        for item in iter {
+            if new.push(*item).is_err() {
+                return Err(NoMemory);
+            }
+        }
+        let Ok(()) = self.extend_with_vec(new) else {
+            return Err(NoMemory);
+        };
+        Ok(())
+    }
+
+    /// Puts all items of `other` in, which is empty then. Of two equal items that of `other` stays.
+    ///
+    /// Where memory is short both sets stay. It takes O(m) time for the m items of both sets that aren't below the least
+    /// item of `other`, with one search for that item and amortised growth. Where this set is empty it takes O(1) time
+    /// and no memory, so it is never refused.
+    pub fn append(&mut self, other: &mut Self) -> Result<(), NoMemory>
+    where
+        T: Drop,
+        ensures items { self.new.items ≡ (if is_ok result then sets T.cmp self.old.items other.old.items else self.old.items) }
+        ensures other { other.new.items ≡ (if is_ok result then [] else other.old.items) }
+        ensures none { self.old.items ≡ [] → IsOk result }
+    {
+        let alloc = *other.items.allocator();
+        if self.items.is_empty() {
+            swap(&mut self.items, &mut other.items);
+            return Ok(());
+        }
+        let Some(tail) = self.open_for(&other.items) else {
+            return Err(NoMemory);
+        };
+        let new = replace(&mut other.items, Vec::new(alloc));
+        self.merge_in(tail, new);
+        Ok(())
+    }
+
+    /// The set of the items that `iter` gives: `extend` of the empty set, in O(m log m) comparisons for m items. Where
+    /// memory is short it is refused, and the items are gone.
+    pub fn try_from_iter<I: IntoIterator<Item = T>>(
+        alloc: Global,
+        iter: I,
+    ) -> Result<Self, NoMemory>
+    where
+        T: Drop,
+        requires { (it : I.IntoIter) → I.into_iter_gives iter it → I.IntoIter.can_next it × IsFinite (I.IntoIter.remaining it) }
+        ensures { IfOk result (λ s. (it : I.IntoIter) × (new : List T) × I.into_iter_gives iter it × Drains I.IntoIter.next_gives it new × (s.items ≡ sets T.cmp [] new)) }
+    {
+        let mut set = SortedVectorSet::new(alloc);
+        set.extend(iter)?;
+        Ok(set)
+    }
+
+    /// The set of the items of `bset`, in O(n) time and without comparisons. It takes memory for all items at once. Where
+    /// there is none it is refused, and the items are gone.
+    pub fn try_from_btree_set(alloc: Global, bset: BTreeSet<T>) -> Result<Self, NoMemory>
+    where
+        T: Drop,
+        ensures { IfOk result (λ s. s.items ≡ bset.keys) }
+    {
+        let items = items_of(alloc, bset)?;
+        Ok(SortedVectorSet { items })
+    }
+
+    /// A set of clones of the items, in their order and with room for them, in O(n) time. The clone of an item is equal
+    /// to it, so the sets are equal. It takes memory, and is refused where there is none.
+    pub fn try_clone(&self, alloc: Global) -> Result<Self, NoMemory>
+    where
+        T: Clone,
+        requires { (item copy : T) → T.is_clone item copy → T.eq copy item ≡ true }
+        ensures clones { IfOk result (λ s. AllZip T.is_clone self.now.items s.items) }
+        ensures equal { IfOk result (λ s. pointwise T.eq s.items self.now.items ≡ true) }
+    {
+        let mut items = Vec::with_capacity(alloc, self.items.len())?;
+        items.extend_with_clones(&self.items)?;
+        Ok(SortedVectorSet { items })
+    }
+
+    // The part of `extend_with_vec` for one item or none.
+    fn extend_with_one(&mut self, mut new: Vec<T>) -> Result<(), Refused<Vec<T>>>
+    where
+        T: Drop,
+        requires { vec_len new ≤ 1 }
+        ensures items { self.new.items ≡ (if is_ok result then sets T.cmp self.old.items new.items else self.old.items) }
+        ensures given { IfErr result (λ refused. refused.given.items ≡ new.items) }
+        ensures none { new.items ≡ [] → IsOk result }
+        ensures present { (x : T) → new.items ≡ x ∷ [] → IsTrue (has T.cmp self.old.items x) → IsOk result }
+        ensures roomy { 1 ≤ self.old.spare → IsOk result }
+        ensures spare { self.old.spare ≤ self.new.spare + 1 }
+        ensures kept_spare { (x : T) → new.items ≡ x ∷ [] → IsTrue (has T.cmp self.old.items x) → self.old.spare ≤ self.new.spare }
+    {
+        let Some(item) = new.pop() else {
+            return Ok(());
+        };
+        match self.insert(item) {
+            Ok(_) => Ok(()),
+            Err(refused) => {
+                new.push_reserved(refused.given);
+                Err(Refused { given: new })
+            }
+        }
+    }
+
+    // The part of `extend_with_vec` for more items.
+    fn extend_with_many(&mut self, mut new: Vec<T>) -> Result<(), Refused<Vec<T>>>
+    where
+        T: Drop,
+        ensures items { self.new.items ≡ (if is_ok result then sets T.cmp self.old.items new.items else self.old.items) }
+        ensures given { IfErr result (λ refused. IsPermutation new.items refused.given.items) }
+    {
+        if new.sort().is_err() {
+            return Err(Refused { given: new });
+        }
+        if self.items.capacity() == 0 {
+            keep_last(&mut new);
+            self.items = new;
+            return Ok(());
+        }
+        let Some(tail) = self.open_for(&new) else {
+            return Err(Refused { given: new });
+        };
+        keep_last(&mut new);
+        self.merge_in(tail, new);
+        Ok(())
+    }
+
+    // Up to here the items are below those of new, whose first item is its least.
+    fn place_under(&self, new: &[T]) -> usize
+        requires { IsSorted T.cmp new.now }
+        ensures in_range { result ≤ length self.now.items }
+        ensures stays { (l : List T) → sets T.cmp (take result self.now.items ++ l) new.now ≡ take result self.now.items ++ sets T.cmp l new.now }
+    {
+        let Some(first) = new.first() else {
+            return self.items.len();
+        };
+        match self.place_of(first) {
+            Ok(at) => at,
+            Err(at) => at,
+        }
+    }
+
+    // Makes room for new, and takes the items out that don't stay in front of it. All growth is here.
+    fn open_for(&mut self, new: &[T]) -> Option<Vec<T>>
+        requires { IsSorted T.cmp new.now }
+        ensures parts { IfSome result (λ tail. self.old.items ≡ self.new.items ++ tail.items) }
+        ensures stays { IfSome result (λ _. (l : List T) → sets T.cmp (self.new.items ++ l) new.now ≡ self.new.items ++ sets T.cmp l new.now) }
+        ensures ascending { IfSome result (λ _. IsStrictlySortedBy T.cmp self.old.items) }
+        ensures room { IfSome result (λ tail. vec_len tail + length new.now ≤ self.new.spare) }
+        ensures none { IfNone result (self.new.items ≡ self.old.items) }
+    {
+        let at = self.place_under(new);
+        if self.items.reserve(new.len()).is_err() {
+            return None;
+        }
+        let Ok(tail) = self.items.split_off(at) else {
+            return None;
+        };
+        Some(tail)
+    }
+
+    // Puts the items of tail and new behind those that are there.
+    fn merge_in(&mut self, tail: Vec<T>, new: Vec<T>)
+    where
+        T: Drop,
+        requires ascending { IsStrictlySortedBy T.cmp new.items }
+        requires whole { IsStrictlySortedBy T.cmp (self.old.items ++ sets T.cmp tail.items new.items) }
+        requires room { vec_len tail + vec_len new ≤ self.old.spare }
+        ensures { self.new.items ≡ self.old.items ++ sets T.cmp tail.items new.items }
+    {
+        merge(tail, new, &mut self.items);
+    }
+}
+
+// The items of a tree, in a vector that takes its memory at once.
+fn items_of<T: Ord + Drop>(alloc: Global, bset: BTreeSet<T>) -> Result<Vec<T>, NoMemory>
+    ensures items { IfOk result (λ items. items.items ≡ bset.keys) }
+    ensures ascending { IfOk result (λ _. IsStrictlySortedBy T.cmp bset.keys) }
+{
+    let mut items = Vec::with_capacity(alloc, bset.len())?;
+    for item in bset {
+        items.push(item)?;
+    }
+    Ok(items)
+}

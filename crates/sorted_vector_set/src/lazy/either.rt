@@ -1,0 +1,58 @@
+//! The lazy union of two sets.
+ghost use Rattle.std.specs.Prelude.{◌≡◌, IfSome, length};
+ghost use Rattle.std.specs.Iterator.{YieldsFirstBy, UpTo, item_count};
+ghost use Rattle.std.specs.Iterator.SizeHint.{IsWithinCount};
+ghost use Rattle.std.specs.Map.Iter.{deref};
+ghost use Rattle.sorted_iter.specs.Hints.{union_hint};
+ghost use Rattle.sorted_vector_set.specs.Hints.{exactly};
+ghost use Rattle.sorted_vector_set.specs.Lazy.{union_to_come};
+
+use crate::lazy::{TwoSets, count_left, sum_of};
+use sorted_iter::Wants;
+use std::marker::Model;
+
+/// The items of either set that are to come, ascending and each once; of two equal items that of the other set.
+///
+/// It is made by [`union`](crate::SortedVectorSet::union). An item takes as many comparisons as items are passed
+/// over for it, and no memory.
+#[derive(Drop)]
+#[must_use = "a set operation is lazy and does nothing until it is asked"]
+pub struct Union<'a, T: Ord> {
+    pub(super) sides: TwoSets<'a, T>,
+}
+
+impl<'a, T: Ord> Model for Union<'a, T> {
+    ghost use Rattle.sorted_vector_set.specs.Lazy.{BothLeft, AreSides, left_of};
+
+    ghost Value = { BothLeft T };
+
+    ghost view = { λ s. record { own = left_of s.sides.right; other = left_of s.sides.left } };
+
+    ghost invariant = { λ s. AreSides T.cmp s.sides };
+}
+
+impl<'a, T: Ord> Iterator for Union<'a, T> {
+    type Item = &'a T;
+
+    ghost next_gives = { YieldsFirstBy deref (union_to_come T.cmp) };
+
+    ghost remaining = { item_count (union_to_come T.cmp) };
+
+    fn next(&mut self) -> Option<&'a T> {
+        self.sides.next(Wants {
+            left: true,
+            both: true,
+            right: true,
+        })
+    }
+
+    fn size_hint(&self) -> (usize, Option<usize>)
+        ensures lower { IsWithinCount result.0 (item_count (union_to_come T.cmp) self.now) }
+        ensures upper { IfSome result.1 (UpTo (item_count (union_to_come T.cmp) self.now)) }
+        ensures lengths { result ≡ union_hint (exactly (length self.now.other)) (exactly (length self.now.own)) }
+    {
+        let own = count_left(&self.sides.right);
+        let other = count_left(&self.sides.left);
+        (other.max(own), sum_of(other, own))
+    }
+}
