@@ -3,7 +3,7 @@ use Rattle.std.specs.Prelude.{option_map}
 use Rattle.range_map.specs.Set.{all_in_numbers}
 use Rattle.range_map.specs.Sweep.{numbers_of}
 use Rattle.cut_points.specs.Cuts.{IsAscending, from_cuts, with_begun}
-use Rattle.cut_points.proofs.convert.set_of.Given as goal
+use Rattle.cut_points.proofs.convert.from_cut_slice.Given as goal
 
 abbrev pub invariant-loop-cut : goal.invariant-loop-cut
 invariant-loop-cut g l =

@@ -10,7 +10,7 @@ use Rattle.range_map.specs.Set.{all_in_numbers}
 use Rattle.range_map.specs.Sweep.{numbers_of}
 use Rattle.cut_points.specs.Cuts.{IsAscending, from_cuts, with_begun}
 use Rattle.cut_points.proofs.CutLemmas.{from_cuts_canonical, ascending_from}
-use Rattle.cut_points.proofs.convert.set_of.Goals as goal
+use Rattle.cut_points.proofs.convert.from_cut_slice.Goals as goal
 
 begun_ascends : {T : Type 0} (number : T → ℤ) (lo hi : ℤ) (begun now : Option T) (cut : T) (rest : List ℤ) → now ≡ cond (is_none begun) (Some cut) None
     → IsAscending lo hi (with_begun (option_map number begun) (number cut ∷ rest)) → IsAscending lo hi (with_begun (option_map number now) rest)
