@@ -1,5 +1,5 @@
 -- How many cuts and ranges there are.
-use Rattle.std.proofs.Common.{◌≡◌, ℕ, suc, ◌+◌, ◌*◌, ◌≤◌, List, [], ◌∷◌, length, refl, arith, sym, ◌∙◌}
+use Rattle.std.proofs.Common.{◌≡◌, ℕ, suc, ◌+◌, ◌*◌, ◌≤◌, List, [], ◌∷◌, length, refl, arith, ◌∙◌}
 use Rattle.std.specs.Prelude.{ℤ, pos, ◌+ℤ◌, ◌≤ℤ◌, ◌<ℤ◌, Bool, true, false, ◌||◌, int_le, cond}
 use Rattle.std.specs.List.{count_by}
 use Rattle.std.specs.Ordering.{int_cmp, int_eq}
@@ -35,7 +35,7 @@ fewer_by_one lo c (y ∷ ys) h e = by_lt_z c y
     later : (has int_cmp ys c ≡ true → suc (from_on (c +ℤ pos 1) ys) ≤ from_on lo ys) → int_eq y c ≡ false
         → suc (from_on (c +ℤ pos 1) (y ∷ ys)) ≤ from_on lo (y ∷ ys)
     later ih q =
-        let rest : has int_cmp ys c ≡ true = sym (rw q at (has_cons y ys c)) ∙ e in
+        let rest : has int_cmp ys c ≡ true = rw q at e in
         let more = ih rest in
         omega (arith, from_cons lo y ys, from_cons (c +ℤ pos 1) y ys, one_less lo (c +ℤ pos 1) y (omega (arith, ints)), more)
 

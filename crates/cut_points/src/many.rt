@@ -1,13 +1,14 @@
 //! The cuts of many ranges together.
-ghost use Rattle.std.specs.Prelude.{◌≡◌, ℤ, List, [], ◌∷◌, map, Some, IfOk};
+ghost use Rattle.std.specs.Prelude.{◌≡◌, ℤ, [], ◌∷◌, ◌++◌, map, Some, IfOk, OnOk};
 ghost use Rattle.std.specs.Iterator.Adapters.{once_item};
 ghost use Rattle.std.specs.List.{AllByRecursion};
 ghost use Rattle.std.specs.Ordering.{int_cmp};
 ghost use Rattle.ordered_lists.specs.Lists.{has};
 ghost use Rattle.ordered_lists.specs.Multiway.{IsMultiwayUnion};
+ghost use Rattle.range_map.specs.Range.{in_numbers};
 ghost use Rattle.range_map.specs.Set.{all_in_numbers};
 ghost use Rattle.range_map.specs.Sweep.{numbers_of};
-ghost use Rattle.cut_points.specs.Cuts.{IsAscending, cuts_alone};
+ghost use Rattle.cut_points.specs.Cuts.{IsAscending, cuts as list_cuts, cuts_alone};
 
 use crate::convert::{are_values, push_cut};
 use element_core::{Element, NoMemory};
@@ -17,6 +18,25 @@ use sorted_vector_set::SortedVectorSet;
 use std::alloc::Global;
 use std::iter::{Once, once};
 
+// Puts the cuts of a range behind those listed.
+fn push_cuts_of<T: Element>(list: &mut Vec<T>, range: Range<T>) -> Result<(), NoMemory>
+    ensures { OnOk result (numbers_of T.numbers list.new.items
+        ≡ numbers_of T.numbers list.old.items
+        ++ list_cuts T.numbers.greatest (in_numbers T.numbers range ∷ [])) }
+{
+    match range.end().successor() {
+        Some(after) => {
+            list.push(range.start())?;
+            list.push(after)?;
+            Ok(())
+        }
+        None => {
+            list.push(range.start())?;
+            Ok(())
+        }
+    }
+}
+
 // The cuts of each range taken alone, range by range.
 fn cuts_of_each<T: Element>(alloc: Global, ranges: &[Range<T>]) -> Result<Vec<T>, NoMemory>
     ensures { IfOk result (λ list. numbers_of T.numbers list.items
@@ -24,10 +44,7 @@ fn cuts_of_each<T: Element>(alloc: Global, ranges: &[Range<T>]) -> Result<Vec<T>
 {
     let mut list = Vec::with_capacity(alloc, ranges.len().saturating_mul(2))?;
     for range in ranges {
-        list.push(range.start())?;
-        if let Some(after) = range.end().successor() {
-            list.push(after)?;
-        }
+        push_cuts_of(&mut list, *range)?;
     }
     Ok(list)
 }

@@ -1,8 +1,6 @@
-use Rattle.std.proofs.Common.{◌≡◌, ap, ◌∙◌}
+use Rattle.std.proofs.Common.{ap, ◌∙◌}
 use Rattle.std.specs.Ordering.{int_cmp}
 use Rattle.ordered_lists.specs.Lists.{has}
-use Rattle.range_map.specs.Sweep.{numbers_of}
-use Rattle.cut_points.specs.Cuts.{IsAscending}
 use Rattle.cut_points.proofs.ManyLemmas.{union_numbers}
 use Rattle.cut_points.proofs.ValueLemmas.{sorted_ascends}
 use Rattle.cut_points.proofs.many.all_cuts.Goals as goal

@@ -1,7 +1,6 @@
-use Rattle.std.proofs.Common.{◌≡◌, ◌+◌, ◌∷◌, [], drop, arith, sym, append_assoc}
+use Rattle.std.proofs.Common.{◌≡◌, ◌+◌, ◌∷◌, drop, arith, sym, append_assoc}
 use Rattle.std.proofs.lemmas.Grind.{common_steps}
 use Rattle.range_map.specs.Sweep.{numbers_of}
-use Rattle.cut_points.specs.Cuts.{IsAscending}
 use Rattle.cut_points.proofs.PlaceLemmas.{ascending_front}
 use Rattle.cut_points.proofs.many.set_of_values.Goals as goal
 

@@ -1,5 +1,4 @@
-use Rattle.std.proofs.Common.{◌≡◌, List, ◌∷◌, [], map, subst, Ok}
-use Rattle.std.specs.Iterator.{IsFinite}
+use Rattle.std.proofs.Common.{◌∷◌, [], map, subst, Ok}
 use Rattle.std.specs.Iterator.Adapters.{once_steps}
 use Rattle.sorted_iter.specs.MultiwaySteps.{MultiListsAre}
 use Rattle.sorted_iter.specs.MultiwayViews.{union_heads}
@@ -16,4 +15,4 @@ returns g c =
     let same = items-of_run m.2.0 m.2.1 m.2.2 (list-of_into_iter m.0 streams m.1.0 m.1.3) in
     let lists = subst (MultiListsAre g.T.Ord.cmp _ _ once_steps) same m.2.3.1 in
     union-of_collect union_heads (map (λ v. v ∷ []) values) {E = Unit {0}} (Ok c.in_ok-collect.field-0) lists
-      (streams_give streams values c.in_ok-streams.ensures) c.in_ok-collect.ensures.ran
+    (streams_give streams values c.in_ok-streams.ensures) c.in_ok-collect.ensures.ran
