@@ -1,0 +1,121 @@
+-- The rows that the pass begins are those of the table.
+use Rattle.std.proofs.Common.{◌≡◌, ℕ, suc, ◌+◌, ◌<◌, List, [], ◌∷◌, length, get_or, refl, sym, ap, ◌∙◌, arith}
+use Rattle.std.specs.Prelude.{ℤ, pos, ◌-ℤ◌, Bool, true, false, not, nat_eq, unwrap_or, if◌then◌else◌, map, Option, Some}
+use Rattle.std.specs.Bool.{Decides}
+use Rattle.std.specs.Cmp.{unsigned_Decides}
+use Rattle.std.specs.Cmp.Lexicographic.{pointwise}
+use Rattle.std.proofs.lemmas.Slice.Eq.{slice_eq-Decides}
+use Rattle.number_line.specs.Segments.{segments}
+use Rattle.set_document.specs.Numbers.{least, greatest}
+use Rattle.set_document.specs.Truth.{Lines, at, named}
+use Rattle.set_document.specs.Table.{places_where, is_held, held, row_of, rows}
+use Rattle.set_document.specs.Names.{last_place, distinct, IsIndex, AreShown}
+use Rattle.set_document.specs.Words.{letters}
+use Rattle.set_document.specs.declared.word.Name.{Name}
+use Rattle.set_document.proofs.NameLemmas.{place_in_range}
+use Rattle.std.specs.List.{AllByRecursion}
+use Rattle.set_document.specs.Literals.{literal_cuts}
+use Rattle.set_document.specs.Visits.{values_at, walk, IsWalk, IsConstantBetween, IsCompiled, closed}
+use Rattle.truth_blocks.specs.Rows.{held_from, label_of, rows_from, ArePlaces}
+use Rattle.truth_blocks.specs.declared.step.Step.{Step}
+use Rattle.set_document.proofs.LineLemmas.{width}
+use Rattle.set_document.proofs.LiteralLemmas.{changes_at_literals}
+use Rattle.set_document.proofs.VisitLemmas.{walk_is_segments}
+use Rattle.truth_blocks.proofs.RowLemmas.{begins_later}
+use Rattle.set_document.proofs.CompileLemmas.{latest_there, second_at}
+
+same : List ℕ → List ℕ → Bool
+same = pointwise nat_eq
+
+decides : (a b : List ℕ) → Decides (pointwise nat_eq a b) (a ≡ b)
+decides a b = slice_eq-Decides unsigned_Decides a b (pointwise nat_eq a b) refl
+
+-- p is the place of the last visited number, and `first` begins the row that is open
+rows_walk : (f : ℤ → List ℕ) (label : ℕ → List ℕ) (hi first : ℤ) (p : ℕ) (vs : List ℤ) → label p ≡ f first
+    → ((i : ℕ) → i < length vs → label (suc p + i) ≡ f (get_or vs i (pos 0)))
+    → closed hi ((first, f first) ∷ rows_from label (suc p) vs) ≡ map row_of (walk (pointwise nat_eq) f hi first vs)
+rows_walk f label hi first p [] e h = refl
+rows_walk f label hi first p (v ∷ vs) e h =
+    let a : suc p + 0 ≡ suc p = omega arith in
+    let b : suc p + 1 ≡ suc (suc p) = omega arith in
+    let here : label (suc p) ≡ f v = rw a at (h 0 (omega arith)) in
+    rw (begins_later label p, e, here, b) (go (pointwise nat_eq (f first) (f v)) refl here
+      (λ g. rows_walk f label hi first (suc p) vs (here ∙ g) later) (rows_walk f label hi v (suc p) vs here later))
+  where
+  later : (i : ℕ) → i < length vs → label (suc (suc p) + i) ≡ f (get_or vs i (pos 0))
+  later i k = let c : suc p + suc i ≡ suc (suc p) + i = omega arith in rw c at (h (suc i) (omega arith))
+  go : (t : Bool) → pointwise nat_eq (f first) (f v) ≡ t → label (suc p) ≡ f v
+      → (f v ≡ f first → closed hi ((first, f first) ∷ rows_from label (suc (suc p)) vs) ≡ map row_of (walk (pointwise nat_eq) f hi first vs))
+      → closed hi ((v, f v) ∷ rows_from label (suc (suc p)) vs) ≡ map row_of (walk (pointwise nat_eq) f hi v vs)
+      → closed hi ((first, f first) ∷ (if not t then (v, f v) ∷ rows_from label (suc (suc p)) vs else rows_from label (suc (suc p)) vs))
+      ≡ map row_of (if t then walk (pointwise nat_eq) f hi first vs else record { first = first; last = v -ℤ pos 1; label = f first } ∷ walk (pointwise nat_eq) f hi v vs)
+  go true c d one two = one (sym ((decides (f first) (f v)).0 c))
+  go false c d one two = ap (λ l. ((first, v -ℤ pos 1), f first) ∷ l) two
+
+-- ---- labels
+
+places_alike : (lines : List (List ℕ × Bool)) (ds : List (List ℕ)) (shown : List ℕ) (n : ℕ) → map (last_place (map (λ l. l.0) lines)) ds ≡ map (λ s. Some s) shown
+    → places_where (is_held lines) n ds ≡ held_from (map (λ l. l.1) lines) n shown
+places_alike lines [] [] n e = refl
+places_alike lines [] (s ∷ shown) n e = absurd cc
+places_alike lines (d ∷ ds) [] n e = absurd cc
+places_alike lines (d ∷ ds) (s ∷ shown) n e =
+    let here : Some s ≡ last_place (map (λ l. l.0) lines) d = cc in
+    let rest : map (last_place (map (λ l. l.0) lines)) ds ≡ map (λ s. Some s) shown = cc in
+    let value : is_held lines d ≡ get_or (map (λ l. l.1) lines) s false = ap (λ r. unwrap_or r false) (latest_there lines (map (λ l. l.0) lines) d s refl here) in
+    rw (value, places_alike lines ds shown (n + 1) rest) refl
+
+names_at : (ls : Lines) (x : ℤ) → map (λ l. l.0) (at ls x) ≡ map (λ l. l.0) ls
+names_at [] x = refl
+names_at (l ∷ ls) x = ap (λ t. l.0 ∷ t) (names_at ls x)
+
+labels_are : (ls : Lines) (x : ℤ) (shown : List ℕ) → AreShown (map (λ l. l.0) ls) shown → held (at ls x) ≡ held_from (values_at ls x) 0 shown
+labels_are ls x shown h =
+    let shown_at : map (last_place (map (λ l. l.0) (at ls x))) (distinct (map (λ l. l.0) (at ls x))) ≡ map (λ s. Some s) shown = rw (names_at ls x) h in
+    places_alike (at ls x) (distinct (map (λ l. l.0) (at ls x))) shown 0 shown_at ∙ ap (λ v. held_from v 0 shown) (second_at ls x)
+
+-- ---- the table
+
+pub rows_are_table : (text : List ℕ) (compiled : List (List Step)) (visited : List ℤ) (shown : List ℕ) → IsWalk least greatest (literal_cuts text) visited → IsCompiled visited (named text) compiled
+    → AreShown (map (λ l. l.0) (named text)) shown → closed greatest (rows_from (label_of compiled shown) 0 visited) ≡ rows text
+unfolding rows
+rows_are_table text compiled visited shown w h s =
+    let f : ℤ → List ℕ = λ x. held (at (named text) x) in
+    let label : (p : ℕ) → p < length visited → label_of compiled shown p ≡ f (get_or visited p (pos 0)) =
+        λ p k. ap (λ v. held_from v 0 shown) (h p k) ∙ sym (labels_are (named text) (get_or visited p (pos 0)) shown s) in
+    let between : IsConstantBetween f greatest least w.later = λ x p q e. ap held (changes_at_literals text x q (w.complete x p q e)) in
+    let cut : walk (pointwise nat_eq) f greatest least w.later ≡ segments (pointwise nat_eq) f least 18446744073709551615 = walk_is_segments (pointwise nat_eq) decides f greatest least 18446744073709551615 w.later width w.ascending between in
+    from f visited w.later w.begins label ∙ ap (map row_of) cut
+  where
+  from : (f : ℤ → List ℕ) (visited later : List ℤ) → visited ≡ least ∷ later → ((p : ℕ) → p < length visited → label_of compiled shown p ≡ f (get_or visited p (pos 0)))
+      → closed greatest (rows_from (label_of compiled shown) 0 visited) ≡ map row_of (walk (pointwise nat_eq) f greatest least later)
+  from f visited later e h =
+      let h2 : (p : ℕ) → p < length (least ∷ later) → label_of compiled shown p ≡ f (get_or (least ∷ later) p (pos 0)) = rw e at h in
+      let zero_first : label_of compiled shown 0 ≡ f least = h2 0 (omega arith) in
+      ap (λ v. closed greatest (rows_from (label_of compiled shown) 0 v)) e
+      ∙ (ap (λ (l : List ℕ). closed greatest ((least, l) ∷ rows_from (label_of compiled shown) 1 later)) zero_first ∙ rows_walk f (label_of compiled shown) greatest least 0 later zero_first (λ i k. let z : 1 + i ≡ suc i = omega arith in rw z (h2 (suc i) (omega arith))))
+
+-- ---- the places from the index
+
+seconds_of : (pairs : List (Name × ℕ)) → map (λ (r : List ℕ × Option ℕ). r.1) (map (λ (p : Name × ℕ). (letters p.0, Some p.1)) pairs) ≡ map (λ s. Some s) (map (λ (p : Name × ℕ). p.1) pairs)
+seconds_of [] = refl
+seconds_of (p ∷ pairs) = ap (λ l. Some p.1 ∷ l) (seconds_of pairs)
+
+seconds_with : (last : List ℕ → Option ℕ) (ds : List (List ℕ)) → map (λ (r : List ℕ × Option ℕ). r.1) (map (λ n. (n, last n)) ds) ≡ map last ds
+seconds_with last [] = refl
+seconds_with last (d ∷ ds) = ap (λ l. last d ∷ l) (seconds_with last ds)
+
+pub index_shown : (names : List (List ℕ)) (pairs : List (Name × ℕ)) → IsIndex names pairs → AreShown names (map (λ p. p.1) pairs)
+index_shown names pairs h = sym (seconds_with (last_place names) (distinct names)) ∙ (sym (ap (map (λ (r : List ℕ × Option ℕ). r.1)) h.lists) ∙ seconds_of pairs)
+
+placed : (names ds : List (List ℕ)) (shown : List ℕ) → map (last_place names) ds ≡ map (λ s. Some s) shown → AllByRecursion (λ s. s < length names) shown
+placed names [] [] e = tt
+placed names [] (s ∷ shown) e = absurd cc
+placed names (d ∷ ds) [] e = absurd cc
+placed names (d ∷ ds) (s ∷ shown) e =
+    let here : last_place names d ≡ Some s = cc in
+    let rest : map (last_place names) ds ≡ map (λ s. Some s) shown = cc in
+    (place_in_range names d s here, placed names ds shown rest)
+
+pub shown_within : (names : List (List ℕ)) (shown : List ℕ) → AreShown names shown → AllByRecursion (λ s. s < length names) shown
+shown_within names shown h = placed names (distinct names) shown h
