@@ -34,11 +34,11 @@ found_from : (earlier : List (List ℕ × Bool)) (name : List ℕ) (before : Opt
 found_from [] name before = refl
 found_from (l ∷ ls) name before = found_from ls name _ ∙ go (last_place (map (λ l. l.0) ls) name) (bytes_eq l.0 name)
   where
-  go : (r : Option ℕ) (b : Bool) → value_from (map (λ l. l.1) ls) (if b then Some l.1 else before) r
-      ≡ value_from (l.1 ∷ map (λ l. l.1) ls) before (elim r [ Some i ↦ Some (suc i) | None ↦ if b then Some 0 else None ])
-  go (Some i) b = refl
-  go None true = refl
-  go None false = refl
+    go : (r : Option ℕ) (b : Bool) → value_from (map (λ l. l.1) ls) (if b then Some l.1 else before) r
+        ≡ value_from (l.1 ∷ map (λ l. l.1) ls) before (elim r [ Some i ↦ Some (suc i) | None ↦ if b then Some 0 else None ])
+    go (Some i) b = refl
+    go None true = refl
+    go None false = refl
 
 -- the latest line of a name is at its last place
 pub latest_there : (earlier : List (List ℕ × Bool)) (names : List (List ℕ)) (name : List ℕ) (i : ℕ) → map (λ l. l.0) earlier ≡ names → Some i ≡ last_place names name
@@ -69,10 +69,10 @@ rises lo hi [] a i j d le lt = absurd (omega arith)
 rises lo hi (x ∷ xs) a zero zero d le lt = omega (arith, ints)
 rises lo hi (x ∷ xs) a zero (suc j) d le lt = let k = above (x +ℤ pos 1) xs a.2 j d (omega arith) in omega (arith, ints)
   where
-  above : (low : ℤ) (ys : List ℤ) → IsAscending low hi ys → (j : ℕ) (d : ℤ) → j < length ys → low ≤ℤ get_or ys j d
-  above low [] b j d m = absurd (omega arith)
-  above low (y ∷ ys) b zero d m = b.0
-  above low (y ∷ ys) b (suc j) d m = let k = above (y +ℤ pos 1) ys b.2 j d (omega arith) in let q = b.0 in omega (arith, ints)
+    above : (low : ℤ) (ys : List ℤ) → IsAscending low hi ys → (j : ℕ) (d : ℤ) → j < length ys → low ≤ℤ get_or ys j d
+    above low [] b j d m = absurd (omega arith)
+    above low (y ∷ ys) b zero d m = b.0
+    above low (y ∷ ys) b (suc j) d m = let k = above (y +ℤ pos 1) ys b.2 j d (omega arith) in let q = b.0 in omega (arith, ints)
 rises lo hi (x ∷ xs) a (suc i) zero d le lt = absurd (omega arith)
 rises lo hi (x ∷ xs) a (suc i) (suc j) d le lt = rises (x +ℤ pos 1) hi xs a.2 i j d (omega arith) (omega arith)
 
@@ -88,19 +88,22 @@ parted_at_most lo hi x xs a = parted (λ y. int_le y x) (λ a b k e. grind (arit
 pub tells_from : (x : ℤ) (xs : List ℤ) (r : ℕ) → IsPartitionPoint (λ y. int_lt y x ≡ true) (λ y. int_lt y x ≡ false) xs r
     → (p : ℕ) → p < length xs → nat_le r p ≡ int_le x (get_or xs p (pos 0))
 tells_from x xs r point p k = elim (cases_lt p r) [
-    inl m ↦ n_le_no r p m ∙ sym (not_below (get_or xs p (pos 0)) (point.0 p (pos 0) (omega arith) m))
-  | inr m ↦ n_le_yes r p m ∙ sym (below (get_or xs p (pos 0)) (point.1 p (pos 0) m k)) ]
+  | inl m ↦ n_le_no r p m ∙ sym (not_below (get_or xs p (pos 0)) (point.0 p (pos 0) (omega arith) m))
+  | inr m ↦ n_le_yes r p m ∙ sym (below (get_or xs p (pos 0)) (point.1 p (pos 0) m k))
+]
   where
-  not_below : (y : ℤ) → int_lt y x ≡ true → int_le x y ≡ false
-  not_below y e = grind (arith, ints)
-  below : (y : ℤ) → int_lt y x ≡ false → int_le x y ≡ true
-  below y e = grind (arith, ints)
+    not_below : (y : ℤ) → int_lt y x ≡ true → int_le x y ≡ false
+    not_below y e = grind (arith, ints)
+
+    below : (y : ℤ) → int_lt y x ≡ false → int_le x y ≡ true
+    below y e = grind (arith, ints)
 
 pub tells_after : (x : ℤ) (xs : List ℤ) (r : ℕ) → IsPartitionPoint (λ y. int_le y x ≡ true) (λ y. int_le y x ≡ false) xs r
     → (p : ℕ) → p < length xs → nat_lt p r ≡ int_le (get_or xs p (pos 0)) x
 tells_after x xs r point p k = elim (cases_lt p r) [
-    inl m ↦ n_lt_yes p r m ∙ sym (point.0 p (pos 0) (omega arith) m)
-  | inr m ↦ n_lt_no p r m ∙ sym (point.1 p (pos 0) m k) ]
+  | inl m ↦ n_lt_yes p r m ∙ sym (point.0 p (pos 0) (omega arith) m)
+  | inr m ↦ n_lt_no p r m ∙ sym (point.1 p (pos 0) m k)
+]
 
 -- ---- one more line
 
@@ -159,9 +162,9 @@ compile_turn visited ns ns' done done' name line rest piece pieces p e f n k w h
     let names : known (ns ++ name ∷ []) ≡ known ns ++ letters name ∷ [] = map-append letters ns (name ∷ []) in
     let compiled : steps_of (done ++ line ∷ []) ≡ steps_of done ++ steps ∷ [] = map-append (λ l. l.steps.items) done (line ∷ []) in
     let grown : paired (known ns') (values_of (steps_of done') p) ≡ paired (known ns) (values_of (steps_of done) p) ++ (letters name, line_value (values_of (steps_of done) p) p steps) ∷ [] =
-        rw (e, f, names, compiled) (pairs_grow (known ns) (steps_of done) (letters name) steps p many) in
+    rw (e, f, names, compiled) (pairs_grow (known ns) (steps_of done) (letters name) steps p many) in
     line_turn x (paired (known ns) (values_of (steps_of done) p)) (paired (known ns') (values_of (steps_of done') p)) piece pieces (letters name) rest
-      (line_value (values_of (steps_of done) p) p steps) w (line_gives visited (known ns) (steps_of done) (words rest) steps p many k h) grown
+    (line_value (values_of (steps_of done) p) p steps) w (line_gives visited (known ns) (steps_of done) (words rest) steps p many k h) grown
 
 pub second_at : (ls : Lines) (x : ℤ) → map (λ l. l.1) (at ls x) ≡ values_at ls x
 unfolding values_at

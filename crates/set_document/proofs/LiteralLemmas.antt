@@ -11,7 +11,7 @@ use Rattle.set_document.specs.Numbers.{greatest}
 use Rattle.set_document.specs.Text.{lines, words, form, kind, Form, Kind, Number, Span, Empty, Full, Name, Not, Or, And, Minus, Xor, Comment, Named, Bad}
 use Rattle.set_document.specs.Truth.{Lines, at, after_word, after_words, truth, after_form, after_lines, named}
 use Rattle.truth_blocks.specs.Stack.{last_value}
-use Rattle.set_document.specs.Literals.{literal, literals_of_words, literals_of_form, literals_of, literals, literal_cuts}
+use Rattle.set_document.specs.Literals.{literal, literals_of_words, literals_of_form, literals_of, literal_cuts}
 
 neither : (a b : Bool) → (a || b) ≡ false → (a ≡ false) × (b ≡ false)
 neither true b e = absurd (cc)
@@ -21,9 +21,9 @@ pub has_append : (xs ys : List ℤ) (x : ℤ) → has int_cmp (xs ++ ys) x ≡ (
 has_append [] ys x = refl
 has_append (c ∷ xs) ys x = rw (has_cons c (xs ++ ys) x, has_cons c xs x, has_append xs ys x) (or_group (int_eq c x) (has int_cmp xs x) (has int_cmp ys x))
   where
-  or_group : (a b c : Bool) → (a || (b || c)) ≡ ((a || b) || c)
-  or_group true b c = refl
-  or_group false b c = refl
+    or_group : (a b c : Bool) → (a || (b || c)) ≡ ((a || b) || c)
+    or_group true b c = refl
+    or_group false b c = refl
 
 not_same : (x c : ℤ) → int_eq c x ≡ false → x ≡ c → ⊥
 not_same x c e f = let t : int_eq c x ≡ true = rw f (eq_same c) in absurd (cc)
@@ -41,15 +41,16 @@ end_on e x h = by_lt_z e x
 pub lies_on : (r : ℤ × ℤ) (x : ℤ) → x ≤ℤ greatest → has int_cmp (cuts greatest (r ∷ [])) x ≡ false → lies_in r x ≡ lies_in r (x -ℤ pos 1)
 lies_on r x q h = by_lt_z r.1 greatest below last
   where
-  below : r.1 <ℤ greatest → lies_in r x ≡ lies_in r (x -ℤ pos 1)
-  below k =
-      let both = neither (int_eq r.0 x) (has int_cmp ((r.1 +ℤ pos 1) ∷ []) x) (sym (has_cons r.0 ((r.1 +ℤ pos 1) ∷ []) x) ∙ (rw (lt_yes r.1 greatest k) at h)) in
-      let after = neither (int_eq (r.1 +ℤ pos 1) x) false (sym (has_cons (r.1 +ℤ pos 1) [] x) ∙ both.1) in
-      rw (start_on r.0 x (not_same x r.0 both.0), end_on r.1 x (not_same x (r.1 +ℤ pos 1) after.0)) refl
-  last : greatest ≤ℤ r.1 → lies_in r x ≡ lies_in r (x -ℤ pos 1)
-  last k =
-      let start = neither (int_eq r.0 x) false (sym (has_cons r.0 [] x) ∙ (rw (lt_no r.1 greatest k) at h)) in
-      rw (start_on r.0 x (not_same x r.0 start.0), le_yes x r.1 (omega (arith, ints)), le_yes (x -ℤ pos 1) r.1 (omega (arith, ints))) refl
+    below : r.1 <ℤ greatest → lies_in r x ≡ lies_in r (x -ℤ pos 1)
+    below k =
+        let both = neither (int_eq r.0 x) (has int_cmp ((r.1 +ℤ pos 1) ∷ []) x) (sym (has_cons r.0 ((r.1 +ℤ pos 1) ∷ []) x) ∙ (rw (lt_yes r.1 greatest k) at h)) in
+        let after = neither (int_eq (r.1 +ℤ pos 1) x) false (sym (has_cons (r.1 +ℤ pos 1) [] x) ∙ both.1) in
+        rw (start_on r.0 x (not_same x r.0 both.0), end_on r.1 x (not_same x (r.1 +ℤ pos 1) after.0)) refl
+
+    last : greatest ≤ℤ r.1 → lies_in r x ≡ lies_in r (x -ℤ pos 1)
+    last k =
+        let start = neither (int_eq r.0 x) false (sym (has_cons r.0 [] x) ∙ (rw (lt_no r.1 greatest k) at h)) in
+        rw (start_on r.0 x (not_same x r.0 start.0), le_yes x r.1 (omega (arith, ints)), le_yes (x -ℤ pos 1) r.1 (omega (arith, ints))) refl
 
 -- ---- words, at two neighbours of which the second is no cut of a literal
 
@@ -100,7 +101,7 @@ pub form_on : (ls : Lines) (f : Form) (x : ℤ) → x ≤ℤ greatest → has in
 form_on ls Comment x q h e = e
 form_on ls (Named name rest) x q h e =
     let t : truth ls (words rest) x ≡ truth ls (words rest) (x -ℤ pos 1) =
-        ap last_value (words_on (at ls x) x [] (words rest) q h ∙ ap (λ v. after_words v (x -ℤ pos 1) [] (words rest)) e) in
+    ap last_value (words_on (at ls x) x [] (words rest) q h ∙ ap (λ v. after_words v (x -ℤ pos 1) [] (words rest)) e) in
     at_push ls name (truth ls (words rest)) x
     ∙ (pair (at ls x) (at ls (x -ℤ pos 1)) name (truth ls (words rest) x) (truth ls (words rest) (x -ℤ pos 1)) e t ∙ sym (at_push ls name (truth ls (words rest)) (x -ℤ pos 1)))
 form_on ls Bad x q h e = e

@@ -31,10 +31,10 @@ after_from : (f : ℤ → Bool) (before : Bool) (ns visited : List ℤ) → (fol
 after_from f before ns [] = sym (append-nil ns)
 after_from f before ns (v ∷ vs) = at (same_bool before (f v)) (after_from f (f v) ns vs) (after_from f (f v) (ns ++ v ∷ []) vs)
   where
-  at : (b : Bool) → (fold (λ s x. note s (f x) x) (f v, ns) vs).1 ≡ ns ++ noted (f v) f vs → (fold (λ s x. note s (f x) x) (f v, ns ++ v ∷ []) vs).1 ≡ (ns ++ v ∷ []) ++ noted (f v) f vs
-      → (fold (λ s x. note s (f x) x) (f v, (if b then ns else ns ++ v ∷ [])) vs).1 ≡ ns ++ (if b then noted (f v) f vs else v ∷ noted (f v) f vs)
-  at true one two = one
-  at false one two = two ∙ append_assoc ns (v ∷ []) (noted (f v) f vs)
+    at : (b : Bool) → (fold (λ s x. note s (f x) x) (f v, ns) vs).1 ≡ ns ++ noted (f v) f vs → (fold (λ s x. note s (f x) x) (f v, ns ++ v ∷ []) vs).1 ≡ (ns ++ v ∷ []) ++ noted (f v) f vs
+        → (fold (λ s x. note s (f x) x) (f v, (if b then ns else ns ++ v ∷ [])) vs).1 ≡ ns ++ (if b then noted (f v) f vs else v ∷ noted (f v) f vs)
+    at true one two = one
+    at false one two = two ∙ append_assoc ns (v ∷ []) (noted (f v) f vs)
 
 pub after_visits_noted : (f : ℤ → Bool) (visited : List ℤ) → (after_visits f visited).1 ≡ noted false f visited
 after_visits_noted f visited = after_from f false [] visited
@@ -82,22 +82,25 @@ noted_in_walk (l ∷ ls) visited lits w =
 pub walk_ascends : (ls : Lines) (visited lits : List ℤ) → IsWalk least greatest lits visited → AllByRecursion (λ (n : Bool × List ℤ). IsAscending least greatest n.1) (walk_lines ls (no_notes ls) visited)
 walk_ascends ls visited lits w = rw (walk_is_each ls visited) (noted_in_walk ls visited lits w)
 
--- the least number and the cuts above it are a walk
-pub visits_walk : (cuts visited : List ℤ) → IsAscending least greatest cuts → visited ≡ least ∷ filter (λ c. int_lt least c) cuts → IsWalk least greatest cuts visited
-visits_walk cuts visited a e = record {
+-- the least number and the cuts above it are a walk past all numbers that the cuts have
+pub visits_walk : (cuts all visited : List ℤ) → IsAscending least greatest cuts → ((x : ℤ) → has int_cmp cuts x ≡ has int_cmp all x)
+    → visited ≡ least ∷ filter (λ c. int_lt least c) cuts → IsWalk least greatest all visited
+visits_walk cuts all visited a same e = record {
   later = filter (λ c. int_lt least c) cuts;
   begins = e;
   ascending = above least greatest cuts a;
-  complete = λ x p q h. dropped (has int_cmp cuts x) (int_lt least x) (lt_yes least x p) (sym (has_filter (λ c. int_lt least c) cuts x) ∙ h) }
+  complete = λ x p q h. sym (same x) ∙ dropped (has int_cmp cuts x) (int_lt least x) (lt_yes least x p) (sym (has_filter (λ c. int_lt least c) cuts x) ∙ h);
+}
   where
-  dropped : (a b : Bool) → b ≡ true → (a && b) ≡ false → a ≡ false
-  dropped true b e h = absurd (cc)
-  dropped false b e h = refl
-  above : (lo hi : ℤ) (cs : List ℤ) → IsAscending lo hi cs → IsAscending (least +ℤ pos 1) hi (filter (λ c. int_lt least c) cs)
-  above lo hi [] a = tt
-  above lo hi (c ∷ cs) a = by_lt_z least c
-      (λ k. rw (lt_yes least c k) (omega (arith, ints), a.1, filter_ascends (c +ℤ pos 1) hi (λ d. int_lt least d) cs a.2))
-      (λ k. rw (lt_no least c k) (above (c +ℤ pos 1) hi cs a.2))
+    dropped : (a b : Bool) → b ≡ true → (a && b) ≡ false → a ≡ false
+    dropped true b e h = absurd (cc)
+    dropped false b e h = refl
+
+    above : (lo hi : ℤ) (cs : List ℤ) → IsAscending lo hi cs → IsAscending (least +ℤ pos 1) hi (filter (λ c. int_lt least c) cs)
+    above lo hi [] a = tt
+    above lo hi (c ∷ cs) a = by_lt_z least c
+        (λ k. rw (lt_yes least c k) (omega (arith, ints), a.1, filter_ascends (c +ℤ pos 1) hi (λ d. int_lt least d) cs a.2))
+        (λ k. rw (lt_no least c k) (above (c +ℤ pos 1) hi cs a.2))
 
 -- ---- the walk over places is the walk over numbers
 
@@ -109,8 +112,8 @@ places_walk compiled ls p ss (v ∷ vs) h =
     let here : values_of compiled p ≡ values_at ls v = rw a at (h 0 (omega arith)) in
     places_walk compiled ls (p + 1) (note_all ss (values_of compiled p) v) vs (λ i k. later i k) ∙ ap (λ (b : List Bool). walk_lines ls (note_all ss b v) vs) here
   where
-  later : (i : ℕ) → i < length vs → values_of compiled ((p + 1) + i) ≡ values_at ls (get_or vs i (pos 0))
-  later i k = let b : p + suc i ≡ (p + 1) + i = omega arith in rw b at (h (suc i) (omega arith))
+    later : (i : ℕ) → i < length vs → values_of compiled ((p + 1) + i) ≡ values_at ls (get_or vs i (pos 0))
+    later i k = let b : p + suc i ≡ (p + 1) + i = omega arith in rw b at (h (suc i) (omega arith))
 
 no_notes_alike : {A B : Type 0} (as' : List A) (bs : List B) → length as' ≡ length bs → no_notes as' ≡ no_notes bs
 no_notes_alike [] [] e = refl
@@ -132,7 +135,7 @@ pub places_give_runs : (text : List ℕ) (compiled : List (List Step)) (visited 
 places_give_runs text compiled visited w h =
     let some : 0 < length visited = rw w.begins (omega arith) in
     let e : walk_places (values_of compiled) 0 (no_notes compiled) visited ≡ walk_lines (named text) (no_notes compiled) visited =
-        places_walk compiled (named text) 0 (no_notes compiled) visited (λ i k. let z : 0 + i ≡ i = omega arith in rw z (h i k)) in
+    places_walk compiled (named text) 0 (no_notes compiled) visited (λ i k. let z : 0 + i ≡ i = omega arith in rw z (h i k)) in
     rw (e, no_notes_alike compiled (named text) (as_many compiled (named text) visited some h)) (walk_gives_runs text visited w)
 
 -- the visited numbers ascend
@@ -145,7 +148,7 @@ pub places_ascend : (text : List ℕ) (compiled : List (List Step)) (visited : L
 places_ascend text compiled visited w h =
     let some : 0 < length visited = rw w.begins (omega arith) in
     let e : walk_places (values_of compiled) 0 (no_notes compiled) visited ≡ walk_lines (named text) (no_notes compiled) visited =
-        places_walk compiled (named text) 0 (no_notes compiled) visited (λ i k. let z : 0 + i ≡ i = omega arith in rw z (h i k)) in
+    places_walk compiled (named text) 0 (no_notes compiled) visited (λ i k. let z : 0 + i ≡ i = omega arith in rw z (h i k)) in
     rw (e, no_notes_alike compiled (named text) (as_many compiled (named text) visited some h)) (walk_ascends (named text) visited (literal_cuts text) w)
 
 pub walk_some : (lits visited : List ℤ) → IsWalk least greatest lits visited → 0 < length visited

@@ -47,8 +47,21 @@ pub record IsWalk (lo hi : ℤ) (cuts visited : List ℤ) : Type 0 where
 abbrev pub IsCompiled : List ℤ → List (List ℕ × (ℤ → Bool)) → List (List Step) → Type 0
 IsCompiled visited lines compiled = (p : ℕ) → p < length visited → values_of compiled p ≡ values_at lines (get_or visited p (pos 0))
 
+-- the number before the first row, or hi where there is none
+abbrev pub end_before : ℤ → List (ℤ × List ℕ) → ℤ
+end_before hi [] = hi
+end_before hi (r ∷ rest) = r.0 -ℤ pos 1
+
+-- the numbers of the first row
+abbrev pub first_closed : ℤ → List (ℤ × List ℕ) → ℤ × ℤ
+first_closed hi [] = (hi, hi)
+first_closed hi (r ∷ rest) = (r.0, end_before hi rest)
+
 -- rows with their last numbers: each ends before the next one, and the last at hi
 abbrev pub closed : ℤ → List (ℤ × List ℕ) → List ((ℤ × ℤ) × List ℕ)
 closed hi [] = []
-closed hi (r ∷ []) = ((r.0, hi), r.1) ∷ []
-closed hi (r ∷ s ∷ rest) = ((r.0, s.0 -ℤ pos 1), r.1) ∷ closed hi (s ∷ rest)
+closed hi (r ∷ rest) = ((r.0, end_before hi rest), r.1) ∷ closed hi rest
+
+-- the first numbers of rows
+abbrev pub firsts : List (ℤ × List ℕ) → List ℤ
+firsts rows = map (λ r. r.0) rows

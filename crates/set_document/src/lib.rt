@@ -6,19 +6,23 @@
 #![tactic(auto)]
 
 mod answer;
+mod compile;
 mod evaluator;
 mod fault;
+mod judge;
 pub mod laws;
 mod line;
 mod named_lines;
+mod names;
 mod number;
+mod pass;
 mod print;
 mod sample;
 mod table;
 mod truth;
 mod word;
 
-pub use answer::{Answer, evaluate, evaluate_document};
+pub use answer::{Answer, evaluate, evaluate_by_sets, evaluate_document};
 pub use fault::AlgebraError;
 pub use line::{LineForm, read_line};
 pub use number::read_number;

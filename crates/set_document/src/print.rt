@@ -3,10 +3,10 @@ ghost use Rattle.std.specs.Prelude.{◌≡◌, ◌++◌, ℤ, OnOk, map};
 ghost use Rattle.set_document.specs.Words.{letters};
 ghost use Rattle.set_document.specs.Answer.{range_text, further_text, list_text, line_text, lines_text, name_text, row_text, rows_text};
 ghost use Rattle.set_document.specs.Lines.{shown_lines};
-ghost use Rattle.set_document.specs.Tabled.{tabled};
+ghost use Rattle.set_document.specs.Tabled.{table_rows};
 
 use crate::named_lines::Line;
-use crate::table::Table;
+use crate::table::TableRow;
 use crate::word::Name;
 use element_core::NoMemory;
 use range_map::{Range, RangeIter, RangeSet};
@@ -109,14 +109,14 @@ fn push_row(
 pub(crate) fn push_rows(
     out: &mut Vec<u8>,
     names: &SortedVectorMap<Name<'_>, usize>,
-    table: &Table,
+    rows: &[TableRow],
 ) -> Result<(), NoMemory>
     ensures { OnOk result
         (out.new.items ≡ out.old.items ++ rows_text (map (λ p. letters p.0) names.now.pairs)
-        (tabled table.now.groups table.now.slots)) }
+        (table_rows rows.now)) }
 {
-    for (range, slot) in table.slots.range_values() {
-        push_row(out, names, range, table.held_in(*slot))?;
+    for row in rows {
+        push_row(out, names, &row.numbers, &row.held)?;
     }
     Ok(())
 }
