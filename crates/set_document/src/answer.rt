@@ -13,7 +13,7 @@ use crate::fault::AlgebraError;
 use crate::judge::judge;
 use crate::named_lines::NamedLines;
 use crate::pass::{numbers_to_visit, pass_over};
-use crate::print::{push_lines, push_rows};
+use crate::print::{push_lines, push_rows, room_for};
 use crate::table::{TableRow, rows_of_table, tabulate};
 use crate::word::Name;
 use element_core::NoMemory;
@@ -128,7 +128,8 @@ impl<'t> Answer<'t> {
     pub fn print(&self, alloc: Global) -> Result<Vec<u8>, NoMemory>
         ensures { IfOk result (λ bytes. bytes.items ≡ printed self.now) }
     {
-        let mut out = Vec::new(alloc);
+        let room = room_for(self.done.lines.as_slice(), &self.done.latest, &self.rows);
+        let mut out = Vec::with_capacity(alloc, room)?;
         push_lines(&mut out, self.done.lines.as_slice())?;
         push_rows(&mut out, &self.done.latest, &self.rows)?;
         Ok(out)

@@ -86,18 +86,20 @@ fn set_of_numbers(alloc: Global, numbers: &[i64]) -> Result<RangeSet<i64>, NoMem
 fn lines_from<'t>(
     alloc: Global,
     names: &[Name<'t>],
-    notes: &[Noted],
+    notes: Vec<Noted>,
 ) -> Result<Vec<Line<'t>>, NoMemory>
-    requires each { length names.now ≡ length notes.now }
-    requires ascending { AllByRecursion (λ n. IsAscending least greatest n.1) (states notes.now) }
+    requires each { length names.now ≡ length notes.items }
+    requires ascending { AllByRecursion (λ n. IsAscending least greatest n.1) (states notes.items) }
     ensures names { IfOk result (λ lines. names_of lines.items ≡ known names.now) }
     ensures sets { IfOk result (λ lines. map (λ l. l.set) lines.items
-        ≡ map (λ n. list_from_cuts greatest n.1) (states notes.now)) }
+        ≡ map (λ n. list_from_cuts greatest n.1) (states notes.items)) }
 {
-    let mut lines = Vec::with_capacity(alloc, notes.len())?;
+    let mut left = notes;
+    let mut lines = Vec::with_capacity(alloc, left.len())?;
     let mut i = 0;
-    while i < notes.len() {
-        let set = set_of_numbers(alloc, &notes[i].numbers)?;
+    while i < left.len() {
+        let numbers = mem::replace(&mut left[i].numbers, Vec::new(alloc));
+        let set = set_of_numbers(alloc, &numbers)?;
         lines.push(Line {
             name: names[i],
             set,
@@ -183,7 +185,7 @@ pub(crate) fn pass_over<'t>(
     let Names { list, latest } = names;
     let shown = shown_of(alloc, &latest)?;
     let Pass { notes, rows } = one_pass(alloc, visited, &lines, &shown)?;
-    let done = lines_from(alloc, &list, &notes)?;
+    let done = lines_from(alloc, &list, notes)?;
     let table = close_rows(alloc, rows)?;
     let named = NamedLines {
         lines: done,

@@ -120,3 +120,59 @@ pub(crate) fn push_rows(
     }
     Ok(())
 }
+
+// How many bytes a number takes.
+fn number_len(n: i64) -> usize {
+    let digits = match n.unsigned_abs().checked_ilog10() {
+        Some(log) => (log as usize).saturating_add(1),
+        None => 1,
+    };
+    if n < 0 {
+        digits.saturating_add(1)
+    } else {
+        digits
+    }
+}
+
+// How many bytes a range takes, with what joins it to others.
+fn range_len(range: &Range<i64>) -> usize {
+    number_len(range.start())
+        .saturating_add(number_len(range.end()))
+        .saturating_add(6)
+}
+
+// How many bytes a line takes, or a few more.
+fn line_len(line: &Line<'_>) -> usize {
+    let mut total = line.name.as_bytes().len().saturating_add(8);
+    for range in line.set.ranges() {
+        total = total.saturating_add(range_len(&range));
+    }
+    total
+}
+
+// How many bytes a row takes, or a few more.
+fn row_len(names: &SortedVectorMap<Name<'_>, usize>, row: &TableRow) -> usize {
+    let mut total = range_len(&row.numbers);
+    for position in &row.held {
+        if let Some((name, _)) = names.get_key_value_at_index(*position) {
+            total = total.saturating_add(name.as_bytes().len().saturating_add(1));
+        }
+    }
+    total
+}
+
+// Room for the bytes of lines and rows. It spares that the bytes are moved as they grow, and no more.
+pub(crate) fn room_for(
+    lines: &[Line<'_>],
+    names: &SortedVectorMap<Name<'_>, usize>,
+    rows: &[TableRow],
+) -> usize {
+    let mut total: usize = 0;
+    for line in lines {
+        total = total.saturating_add(line_len(line));
+    }
+    for row in rows {
+        total = total.saturating_add(row_len(names, row));
+    }
+    total
+}

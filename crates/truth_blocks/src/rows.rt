@@ -75,18 +75,27 @@ fn push_if(held: &mut Vec<usize>, place: usize, holds: bool) -> Result<(), NoMem
     Ok(())
 }
 
+// How many lines the next row may hold: one more than the last row. It spares room, and no more.
+fn room_after(rows: &Vec<Row>) -> usize {
+    match rows.last() {
+        Some(row) => row.held.len().saturating_add(1),
+        None => 0,
+    }
+}
+
 // The lines that are true at a place of the block, by their places among those that are shown.
 fn held_at(
     alloc: Global,
     words: &[u64],
     shown: &[usize],
     place: usize,
+    room: usize,
 ) -> Result<Vec<usize>, NoMemory>
     requires within { ArePlaces (length words.now) shown.now }
     requires place { place < 64 }
     ensures { IfOk result (λ held. held.items ≡ held_from (bits place words.now) 0 shown.now) }
 {
-    let mut held = Vec::new(alloc);
+    let mut held = Vec::with_capacity(alloc, room)?;
     for (k, line) in shown.iter().enumerate() {
         push_if(&mut held, k, is_set(words[*line], place))?;
     }
@@ -113,7 +122,8 @@ pub(crate) fn push_rows(
         if place as usize >= block.len() {
             return Ok(());
         }
-        let held = held_at(alloc, words, shown, place as usize)?;
+        let room = room_after(rows);
+        let held = held_at(alloc, words, shown, place as usize, room)?;
         rows.push(Row {
             first: block[place as usize],
             held,

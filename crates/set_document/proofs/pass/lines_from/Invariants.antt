@@ -11,11 +11,11 @@ use Rattle.set_document.proofs.pass.lines_from.Given as goal
 abbrev pub invariant-loop-i : goal.invariant-loop-i
 invariant-loop-i l = record {
   names : names_of l.lines.items ++ known (drop l.i l.names) ≡ known l.names;
-  sets : map (λ e. e.set) l.lines.items ++ map (λ n. from_cuts greatest n.1) (states (drop l.i l.notes))
-      ≡ map (λ n. from_cuts greatest n.1) (states l.notes);
-  left : AllByRecursion (λ n. IsAscending least greatest n.1) (states (drop l.i l.notes));
-  bound : l.i ≤ length l.notes;
-}
+  sets : map (λ e. e.set) l.lines.items ++ map (λ n. from_cuts greatest n.1) (states (drop l.i l.left.items))
+      ≡ map (λ n. from_cuts greatest n.1) (states l.fn.notes.items);
+  ascending : AllByRecursion (λ n. IsAscending least greatest n.1) (states (drop l.i l.left.items));
+  len : length l.left.items ≡ length l.names;
+  bound : l.i ≤ length l.left.items }
 
 abbrev pub decreases-loop-i : goal.decreases-loop-i
-decreases-loop-i l = length l.notes - l.i
+decreases-loop-i l = length l.left.items - l.i

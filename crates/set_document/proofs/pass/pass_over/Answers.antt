@@ -37,10 +37,10 @@ lines_from-requires c =
     let visited = c.args.visited.now in
     let notes = rw c.deref.ensures.value at c.in_ok-notes.ensures.notes in
     let some = walk_some (literal_cuts c.args.text.now) visited c.requires in
-    let e : states c.deref-4.result.now ≡ walk_places (values_of steps) 0 (no_notes steps) visited = ap states c.deref-4.ensures.value ∙ notes in
-    let many : length (states c.deref-4.result.now) ≡ length p.lines.items = rw e (length_walk steps 0 (no_notes steps) visited (length-map steps _) ∙ length-map p.lines.items _) in
+    let e : states c.in_ok-notes.field-0.notes.items ≡ walk_places (values_of steps) 0 (no_notes steps) visited = notes in
+    let many : length (states c.in_ok-notes.field-0.notes.items) ≡ length p.lines.items = rw e (length_walk steps 0 (no_notes steps) visited (length-map steps _) ∙ length-map p.lines.items _) in
     record {
-      each = rw c.deref-3.ensures.value (c.in_ok-lines.ensures.len ∙ (sym many ∙ length-map c.deref-4.result.now state));
+      each = rw c.deref-3.ensures.value (c.in_ok-lines.ensures.len ∙ (sym many ∙ length-map c.in_ok-notes.field-0.notes.items state));
       ascending = rw e (places_ascend c.args.text.now steps visited c.requires c.in_ok-lines.ensures.steps);
     }
 
@@ -57,7 +57,7 @@ returns-clause-lines c =
     let text = c.args.text.now in
     let visited = c.args.visited.now in
     let notes = rw c.deref.ensures.value at c.in_ok-notes.ensures.notes in
-    let e : states c.deref-4.result.now ≡ walk_places (values_of steps) 0 (no_notes steps) visited = ap states c.deref-4.ensures.value ∙ notes in
+    let e : states c.in_ok-notes.field-0.notes.items ≡ walk_places (values_of steps) 0 (no_notes steps) visited = notes in
     let names = rw c.deref-3.ensures.value at c.in_ok-done.ensures.names in
     let sets = c.in_ok-done.ensures.sets ∙ (ap (map (λ (n : Bool × List ℤ). from_cuts greatest n.1)) e ∙ places_give_runs text steps visited c.requires c.in_ok-lines.ensures.steps) in
     lines_listed text c.in_ok-done.done.items (names ∙ c.in_ok-lines.ensures.names (walk_some (literal_cuts text) visited c.requires)) sets
