@@ -31,6 +31,8 @@ pub use truth::truths_at;
 pub use word::{Name, Word, read_word};
 
 #[cfg(test)]
+mod both_tests;
+#[cfg(test)]
 mod sample_tests;
 #[cfg(test)]
 mod table_tests;

@@ -10,6 +10,8 @@ mod block;
 mod note;
 mod rows;
 mod step;
+#[cfg(test)]
+mod tests;
 mod walk;
 
 pub use block::LineSteps;

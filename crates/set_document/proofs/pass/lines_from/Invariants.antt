@@ -15,7 +15,8 @@ invariant-loop-i l = record {
       ≡ map (λ n. from_cuts greatest n.1) (states l.fn.notes.items);
   ascending : AllByRecursion (λ n. IsAscending least greatest n.1) (states (drop l.i l.left.items));
   len : length l.left.items ≡ length l.names;
-  bound : l.i ≤ length l.left.items }
+  bound : l.i ≤ length l.left.items;
+}
 
 abbrev pub decreases-loop-i : goal.decreases-loop-i
 decreases-loop-i l = length l.left.items - l.i
