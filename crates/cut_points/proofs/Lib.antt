@@ -4,3 +4,5 @@ pub mod SymmetricLemmas
 pub mod ValueLemmas
 pub mod PlaceLemmas
 pub mod EitherLemmas
+pub mod ManyLemmas
+pub mod BoundLemmas

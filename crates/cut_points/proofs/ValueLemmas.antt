@@ -50,7 +50,7 @@ module _ {T : Type 0} (cmp : T → T → Ordering) (n : Numbering T) (law : IsNu
 
   -- ---- the set operations on items are those on their numbers
 
-  has_at : (xs : List T) (k : T) → AllByRecursion n.IsValue xs → n.IsValue k → has cmp xs k ≡ has int_cmp (numbers_of n xs) (n.number k)
+  pub has_at : (xs : List T) (k : T) → AllByRecursion n.IsValue xs → n.IsValue k → has cmp xs k ≡ has int_cmp (numbers_of n xs) (n.number k)
   has_at [] k v w = refl
   has_at (x ∷ xs) k v w = rw (law.order x k v.0 w) (at (has_at xs k v.1 w) (is_eq (int_cmp (n.number x) (n.number k))))
     where

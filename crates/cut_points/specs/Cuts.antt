@@ -1,5 +1,5 @@
 -- The cuts of a list of ranges: the numbers at which membership changes.
-use Rattle.std.specs.Prelude.{◌%◌, ◌==◌, ℤ, pos, ◌+ℤ◌, ◌-ℤ◌, ◌≤ℤ◌, Bool, int_le, int_lt, if◌then◌else◌, List, [], ◌∷◌, Option, Some, None}
+use Rattle.std.specs.Prelude.{◌%◌, ◌==◌, ℤ, pos, ◌+ℤ◌, ◌-ℤ◌, ◌≤ℤ◌, Bool, int_le, int_lt, if◌then◌else◌, List, [], ◌∷◌, flat_map, Option, Some, None}
 use Rattle.std.specs.List.{count_by}
 
 -- the numbers lie from lo to hi, and each is less than the next
@@ -12,6 +12,10 @@ abbrev pub cuts : ℤ → List (ℤ × ℤ) → List ℤ
 cuts greatest [] = []
 cuts greatest (r ∷ rest) =
     if int_lt r.1 greatest then r.0 ∷ (r.1 +ℤ pos 1) ∷ cuts greatest rest else r.0 ∷ cuts greatest rest
+
+-- the cuts of each range taken alone, range by range
+abbrev pub cuts_alone : ℤ → List (ℤ × ℤ) → List ℤ
+cuts_alone greatest ranges = flat_map (λ r. cuts greatest (r ∷ [])) ranges
 
 -- the ranges with these cuts: each cut begins a range or ends one, and the last range goes to the greatest number where no cut ends it
 abbrev pub from_cuts : ℤ → List ℤ → List (ℤ × ℤ)

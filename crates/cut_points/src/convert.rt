@@ -14,7 +14,7 @@ use sorted_vector_set::SortedVectorSet;
 use std::alloc::Global;
 
 /// Puts `cut`, which is above all others, behind those kept.
-fn push_cut<T: Element>(kept: &mut SortedVectorSet<T>, cut: T) -> Result<(), NoMemory>
+pub(crate) fn push_cut<T: Element>(kept: &mut SortedVectorSet<T>, cut: T) -> Result<(), NoMemory>
     requires values { AllByRecursion T.numbers.IsValue kept.old.items }
     requires ascending { IsAscending T.numbers.least T.numbers.greatest (numbers_of T.numbers kept.old.items ++ T.numbers.number cut ∷ []) }
     ensures values { OnOk result (AllByRecursion T.numbers.IsValue kept.new.items) }
@@ -125,10 +125,12 @@ fn end_at_greatest<T: Element>(ranges: &mut Vec<Range<T>>, begun: Option<T>) -> 
     Ok(())
 }
 
-/// The set with these cuts.
-pub(crate) fn set_of<T: Element>(alloc: Global, list: &[T]) -> Result<RangeSet<T>, NoMemory>
+/// The one set whose cuts are these values, which ascend, as `from_cuts` makes it of a sorted set. Takes O(n) time for n
+/// cuts, and memory.
+pub fn from_cut_slice<T: Element>(alloc: Global, list: &[T]) -> Result<RangeSet<T>, NoMemory>
     requires { IsAscending T.numbers.least T.numbers.greatest (numbers_of T.numbers list.now) }
-    ensures { IfOk result (λ set. set ≡ from_cuts T.numbers.greatest (numbers_of T.numbers list.now)) }
+    ensures { IfOk result (λ set.
+        set ≡ from_cuts T.numbers.greatest (numbers_of T.numbers list.now)) }
 {
     let mut ranges = Vec::with_capacity(alloc, (list.len() / 2).saturating_add(1))?;
     let mut begun = None;
@@ -151,7 +153,7 @@ pub fn from_cuts<T: Element>(
 {
     let list = cuts.iter().as_slice();
     are_values(list);
-    let set = set_of(alloc, list)?;
+    let set = from_cut_slice(alloc, list)?;
     Ok(set)
 }
 

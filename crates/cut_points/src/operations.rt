@@ -6,7 +6,7 @@ ghost use Rattle.std.specs.List.Sorted.{IsStrictlySortedBy};
 ghost use Rattle.number_line.specs.Ranges.{holds, IsCanonical, xor};
 ghost use Rattle.ordered_lists.specs.Lists.{symmetric_difference};
 
-use crate::convert::{cut_list, set_of};
+use crate::convert::{cut_list, from_cut_slice};
 use element_core::{Element, NoMemory};
 use range_map::RangeSet;
 use sorted_iter::{AssumeSortedByItemExt, SortedIterator};
@@ -42,7 +42,7 @@ pub fn symmetric_difference<T: Element>(
     let left_cuts = cut_list(alloc, left)?;
     let right_cuts = cut_list(alloc, right)?;
     let both = in_just_one(alloc, &left_cuts, &right_cuts)?;
-    let set = set_of(alloc, &both)?;
+    let set = from_cut_slice(alloc, &both)?;
     Ok(set)
 }
 

@@ -1,5 +1,5 @@
 //! What no contract shows: that the calls succeed where memory suffices, and cuts that people know.
-use crate::{contains_by_cuts, cuts, difference, from_cuts, symmetric_difference};
+use crate::{all_cuts, contains_by_cuts, cuts, difference, from_cuts, symmetric_difference};
 use element_core::{Element, NoMemory};
 use range_map::{Range, RangeSet};
 use sorted_vector_set::SortedVectorSet;
@@ -45,6 +45,25 @@ fn starts_and_successors_of_ends(rt: HostRuntime) -> Result<(), Fail> {
     );
     let again = from_cuts(alloc, &found)?;
     assert!(rt; again == set);
+    Ok(())
+}
+
+#[test]
+fn cuts_of_many_ranges_come_once(rt: HostRuntime) -> Result<(), Fail> {
+    let alloc = rt.alloc();
+    let ranges = [
+        Range::new(6, i64::MAX),
+        Range::new(1, 5),
+        Range::new(4, 8),
+        Range::new(4, 5),
+    ];
+    let found = all_cuts(alloc, &ranges)?;
+    assert_eq!(rt;
+        items_of(alloc, &found)?.as_slice(),
+        [1, 4, 6, 9].as_slice()
+    );
+    let none: [Range<i64>; 0] = [];
+    assert!(rt; all_cuts(alloc, &none)?.is_empty());
     Ok(())
 }
 

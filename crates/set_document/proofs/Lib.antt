@@ -15,3 +15,10 @@ pub mod PrintedLemmas
 pub mod ReadBackLemmas
 pub mod SampleLemmas
 pub mod CountLemmas
+pub mod LiteralLemmas
+pub mod LineLemmas
+pub mod LawLemmas
+pub mod VisitLemmas
+pub mod RunLemmas
+pub mod CompileLemmas
+pub mod PassLemmas

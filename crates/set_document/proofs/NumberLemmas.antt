@@ -1,6 +1,9 @@
 -- The runs over all numbers of 64 bits.
-use Rattle.std.proofs.Common.{◌≡◌, refl, List}
+use Rattle.std.proofs.Common.{◌≡◌, refl, ap, List, [], ◌∷◌, w64}
 use Rattle.std.specs.Prelude.{ℤ, pos, ◌+ℤ◌, Bool, ◌≤ℤ◌}
+use Rattle.element_core.specs.Numberings.{signed}
+use Rattle.range_map.specs.Set.{all_in_numbers}
+use Rattle.range_map.specs.Sweep.{numbers_of}
 use Rattle.number_line.specs.Ranges.{holds, IsCanonical}
 use Rattle.number_line.proofs.SegmentLemmas.{canonical_is_runs, runs_canonical, runs_hold}
 use Rattle.set_document.specs.Numbers.{least, greatest, above_least, i64_runs}
@@ -21,3 +24,20 @@ i64_runs_canonical f = (runs_canonical f greatest least above_least width, runs_
 
 pub runs_are_the_ranges : RunsAreTheRanges
 runs_are_the_ranges f = (i64_runs_canonical f, canonical_is_i64_runs f)
+
+-- the numbers of numbers, and of ranges of them
+pub numbers_are : (xs : List ℤ) → numbers_of (signed w64) xs ≡ xs
+numbers_are [] = refl
+numbers_are (x ∷ xs) = ap (λ l. x ∷ l) (numbers_are xs)
+
+pub ranges_are : (rs : List (ℤ × ℤ)) → all_in_numbers (signed w64) rs ≡ rs
+ranges_are [] = refl
+ranges_are (r ∷ rs) = ap (λ l. r ∷ l) (ranges_are rs)
+
+pub least_is : (signed w64).least ≡ least
+unfolding least
+least_is = refl
+
+pub greatest_is : (signed w64).greatest ≡ greatest
+unfolding greatest
+greatest_is = refl

@@ -9,7 +9,8 @@ use Rattle.number_line.specs.Ranges.{holds, lies_in}
 use Rattle.set_document.specs.Answer.{range_text, further_text, list_text, line_text, name_text, row_text}
 use Rattle.set_document.specs.Faults.{Depth, judge_word, fault_in_words}
 use Rattle.set_document.specs.Text.{words, kind, form, form_of_body, form_of_named, is_letter, is_name, Or, Comment, Named}
-use Rattle.set_document.specs.Truth.{after_word, after_words, last_value}
+use Rattle.set_document.specs.Truth.{after_word, after_words}
+use Rattle.truth_blocks.specs.Stack.{last_value}
 use Rattle.std.proofs.lemmas.Bool.Decides.{nat_tests}
 use Rattle.set_document.proofs.PieceLemmas.{all_weaken, both_all, split_word, split_last, prefix_whole, form_before_feed}
 use Rattle.set_document.proofs.DecimalLemmas.{range_bytes, kind_of_range}

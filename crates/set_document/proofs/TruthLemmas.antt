@@ -5,7 +5,8 @@ use Rattle.std.proofs.lemmas.List.{map-append}
 use Rattle.set_document.specs.Text.{Form, Comment, Named, Bad, form, words, lines}
 use Rattle.set_document.specs.Lines.{pairs_of}
 use Rattle.set_document.specs.declared.truth.Known.{Known}
-use Rattle.set_document.specs.Truth.{Lines, at, after_form, after_lines, after_words, last_value, named}
+use Rattle.set_document.specs.Truth.{Lines, at, after_form, after_lines, after_words, named}
+use Rattle.truth_blocks.specs.Stack.{last_value}
 
 -- what the named lines give at x after one more line
 abbrev pub form_at : ℤ → List (List ℕ × Bool) → Form → List (List ℕ × Bool)

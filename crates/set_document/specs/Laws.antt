@@ -1,11 +1,15 @@
 -- What holds of the definitions of a document.
-use Rattle.std.specs.Prelude.{◌≡◌, ℕ, ◌≤◌, ℤ, ◌≤ℤ◌, Bool, List, [], ◌∷◌, length, map, nat_eq}
+use Rattle.std.specs.Prelude.{◌≡◌, ℕ, ◌≤◌, ℤ, pos, ◌-ℤ◌, ◌≤ℤ◌, ◌⊎◌, ◌+◌, ◌*◌, Bool, true, false, List, [], ◌∷◌, length, map, nat_eq}
 use Rattle.std.specs.Cmp.Lexicographic.{pointwise}
 use Rattle.std.specs.List.{AllByRecursion}
 use Rattle.number_line.specs.Ranges.{holds, IsCanonical}
 use Rattle.number_line.specs.Segments.{Segment, IsCut, IsCover}
-use Rattle.set_document.specs.Answer.{answer}
+use Rattle.std.specs.Ordering.{int_cmp}
+use Rattle.ordered_lists.specs.Lists.{has}
+use Rattle.cut_points.specs.Cuts.{cuts}
+use Rattle.set_document.specs.Answer.{answer, listed}
 use Rattle.set_document.specs.Faults.{IsWellFormed}
+use Rattle.set_document.specs.Literals.{literals, literal_cuts}
 use Rattle.set_document.specs.Numbers.{least, greatest, i64_runs}
 use Rattle.set_document.specs.Table.{names, held, rows}
 use Rattle.set_document.specs.Text.{lines, form, Comment}
@@ -37,3 +41,25 @@ RowsAreFewest = (text : List ℕ) → FewestRows text
 -- the answer to any text, also to one with a fault, is a text without a fault, and its own answer
 abbrev pub AnswersReadBack : Type 0
 AnswersReadBack = (text : List ℕ) → IsWellFormed (answer text) × (answer (answer text) ≡ answer text)
+
+-- at a number that is no cut of a number or range of the text each line gives what it gives at the number before; of any text, also of one
+-- with a fault
+abbrev pub TruthChangesAtCuts : Type 0
+TruthChangesAtCuts = (text : List ℕ) (x : ℤ) → x ≤ℤ greatest → has int_cmp (literal_cuts text) x ≡ false
+    → at (named text) x ≡ at (named text) (x -ℤ pos 1)
+
+-- each cut of a line's runs is the least number, or a cut of a number or range of the text
+abbrev pub RunCutsAreLiteral : Type 0
+RunCutsAreLiteral = (text : List ℕ)
+    → AllByRecursion (λ line. (x : ℤ) → has int_cmp (cuts greatest line.1) x ≡ true → (x ≡ least) ⊎ (has int_cmp (literal_cuts text) x ≡ true)) (listed text)
+
+-- no line has more runs than the text has numbers and ranges, and one
+abbrev pub HasFewRanges : List ℕ → List (List ℕ × List (ℤ × ℤ)) → Type 0
+HasFewRanges text lines = AllByRecursion (λ line. length line.1 ≤ length (literals text) + 1) lines
+
+abbrev pub FewRanges : Type 0
+FewRanges = (text : List ℕ) → HasFewRanges text (listed text)
+
+-- nor are there more rows than twice as many, and one
+abbrev pub FewRows : Type 0
+FewRows = (text : List ℕ) → length (rows text) ≤ 2 * length (literals text) + 1

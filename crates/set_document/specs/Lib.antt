@@ -12,3 +12,6 @@ pub mod Names
 pub mod Steps
 pub mod Laws
 pub mod Sample
+pub mod Literals
+pub mod Visits
+pub mod Compile

@@ -32,3 +32,7 @@ with_last_places names = map (λ name. (name, last_place names name)) (distinct 
 pub record IsIndex (names : List (List ℕ)) (pairs : List (Name × ℕ)) : Type 0 where
   pub finds : (name : Name) → option_map (λ p. p.1) (find (to_key name_cmp) pairs name) ≡ last_place names (letters name)
   pub lists : map (λ p. (letters p.0, Some p.1)) pairs ≡ with_last_places names
+
+-- for each distinct name, in order, the place of its last line
+abbrev pub AreShown : List (List ℕ) → List ℕ → Type 0
+AreShown names shown = map (last_place names) (distinct names) ≡ map (λ s. Some s) shown

@@ -4,6 +4,7 @@
 -- the values as they are, and no value gives false; in a text without a fault neither happens.
 use Rattle.std.specs.Prelude.{ℕ, ℤ, Bool, true, false, not, ◌&&◌, ◌||◌, if◌then◌else◌, List, [], ◌∷◌, ◌++◌, fold, map, bytes_eq, Option, Some, None}
 use Rattle.number_line.specs.Ranges.{lies_in, xor}
+use Rattle.truth_blocks.specs.Stack.{on_one, on_two, last_value}
 use Rattle.set_document.specs.Text.{lines, words, form, kind, Form, Kind, Number, Span, Empty, Full, Name, Not, Or, And, Minus, Xor, Comment, Named, Bad}
 
 -- named lines in order, each with its truth at every number
@@ -17,16 +18,6 @@ at lines x = map (λ l. (l.0, l.1 x)) lines
 -- what the latest line of that name gives
 abbrev pub latest : List (List ℕ × Bool) → List ℕ → Option Bool
 latest ls name = fold (λ found l. if bytes_eq l.0 name then Some l.1 else found) None ls
-
--- the truth values at x, the last one first, after an operator of one, or of two
-abbrev pub on_one : (Bool → Bool) → List Bool → List Bool
-on_one op [] = []
-on_one op (a ∷ rest) = op a ∷ rest
-
-abbrev pub on_two : (Bool → Bool → Bool) → List Bool → List Bool
-on_two op [] = []
-on_two op (b ∷ []) = b ∷ []
-on_two op (b ∷ a ∷ rest) = op a b ∷ rest
 
 -- a value pushed, where there is one
 abbrev pub push_some : Option Bool → List Bool → List Bool
@@ -46,11 +37,6 @@ after_word earlier x values (Some Or) = on_two (λ a b. a || b) values
 after_word earlier x values (Some And) = on_two (λ a b. a && b) values
 after_word earlier x values (Some Minus) = on_two (λ a b. a && not b) values
 after_word earlier x values (Some Xor) = on_two xor values
-
--- the value that was pushed last
-abbrev pub last_value : List Bool → Bool
-last_value [] = false
-last_value (a ∷ rest) = a
 
 -- the truth values that words leave, after those that are there
 abbrev pub after_words : List (List ℕ × Bool) → ℤ → List Bool → List (List ℕ) → List Bool

@@ -1,16 +1,20 @@
 //! The answer of a document: its named sets, its table, and its bytes.
-ghost use Rattle.std.specs.Prelude.{◌≡◌, Some, IfOk, IfErr, OnOk, length, List, map, min, sum_by, slice_get, option_map};
+ghost use Rattle.std.specs.Prelude.{◌≡◌, ◌+◌, ◌*◌, ◌≤◌, Some, IfOk, IfErr, OnOk, length, List, map, min, sum_by, slice_get, option_map};
 ghost use Rattle.set_document.specs.Answer.{shape, printed, answer};
 ghost use Rattle.set_document.specs.Faults.{first_fault, IsWellFormed};
+ghost use Rattle.set_document.specs.Laws.{HasFewRanges};
+ghost use Rattle.set_document.specs.Literals.{literals};
 ghost use Rattle.set_document.specs.Names.{with_last_places};
 ghost use Rattle.set_document.specs.Steps.{IsFirstFault};
 ghost use Rattle.set_document.specs.Words.{letters};
 
 use crate::evaluator::evaluate_lines;
 use crate::fault::AlgebraError;
+use crate::judge::judge;
 use crate::named_lines::NamedLines;
-use crate::print::{push_lines, push_rows};
-use crate::table::{Table, tabulate};
+use crate::pass::{numbers_to_visit, pass_over};
+use crate::print::{push_lines, push_rows, room_for};
+use crate::table::{TableRow, rows_of_table, tabulate};
 use crate::word::Name;
 use element_core::NoMemory;
 use range_map::{Range, RangeSet};
@@ -26,7 +30,7 @@ use std::marker::Model;
 #[derive(Drop)]
 pub struct Answer<'t> {
     done: NamedLines<'t>,
-    table: Table,
+    rows: Vec<TableRow>,
 }
 
 impl<'t> Model for Answer<'t> {
@@ -34,7 +38,7 @@ impl<'t> Model for Answer<'t> {
     ghost use Rattle.set_document.specs.Answer.{Shape};
     ghost use Rattle.set_document.specs.Lines.{names_of, shown_lines};
     ghost use Rattle.set_document.specs.Names.{IsIndex};
-    ghost use Rattle.set_document.specs.Tabled.{tabled};
+    ghost use Rattle.set_document.specs.Tabled.{table_rows};
     ghost use Rattle.set_document.specs.Words.{letters};
 
     ghost Value = { Shape };
@@ -42,7 +46,7 @@ impl<'t> Model for Answer<'t> {
     ghost view = { λ answer. record {
       lines = shown_lines answer.done.lines.items;
       names = map (λ p. letters p.0) answer.done.latest.pairs;
-      rows = tabled answer.table.groups answer.table.slots;
+      rows = table_rows answer.rows.items;
     } };
 
     ghost invariant = { λ answer. IsIndex
@@ -82,7 +86,7 @@ impl<'t> Answer<'t> {
     pub fn num_rows(&self) -> usize
         ensures { result ≡ length self.now.rows }
     {
-        self.table.num_rows()
+        self.rows.len()
     }
 
     /// The numbers of a row, which count from 0, and the positions of the names that hold there,
@@ -91,7 +95,8 @@ impl<'t> Answer<'t> {
     pub fn row(&self, index: usize) -> Option<(Range<i64>, &[usize])>
         ensures { option_map (λ row. (row.0, row.1.now)) result ≡ slice_get self.now.rows index }
     {
-        self.table.row(index)
+        let row = self.rows.get(index)?;
+        Some((row.numbers, row.held.as_slice()))
     }
 
     /// The name at a position among the distinct names in the order of their bytes, from 0, or
@@ -123,9 +128,10 @@ impl<'t> Answer<'t> {
     pub fn print(&self, alloc: Global) -> Result<Vec<u8>, NoMemory>
         ensures { IfOk result (λ bytes. bytes.items ≡ printed self.now) }
     {
-        let mut out = Vec::new(alloc);
+        let room = room_for(self.done.lines.as_slice(), &self.done.latest, &self.rows);
+        let mut out = Vec::with_capacity(alloc, room)?;
         push_lines(&mut out, self.done.lines.as_slice())?;
-        push_rows(&mut out, &self.done.latest, &self.table)?;
+        push_rows(&mut out, &self.done.latest, &self.rows)?;
         Ok(out)
     }
 }
@@ -133,17 +139,40 @@ impl<'t> Answer<'t> {
 /// The answer of a document, or its first fault.
 ///
 /// Lines are judged in order, in a line its form first, then its words from the left, and last the
-/// number of sets that they leave. One pass over the text; each word costs the ranges of the sets
-/// that it takes and leaves. The table is made by a sweep over the bounds of all ranges of the
-/// names' last lines, with a list of names for each stretch.
+/// number of sets that they leave. What the lines give changes only at the cuts of the numbers and
+/// ranges in the text, each taken alone, so one pass over the least number and these cuts tells all:
+/// at 64 of them at a time the words of all lines are folded over truth values, a name word reads
+/// the values of its latest earlier line, and what changes is noted. With n number and range words
+/// a list has at most n + 1 ranges, and the table at most 2n + 1 rows.
+///
+/// O(n log n) for the cuts, a step for each word and 64 cuts, and the size of the answer.
 pub fn evaluate<'t>(alloc: Global, text: &'t [u8]) -> Result<Answer<'t>, AlgebraError>
+    ensures well_formed { OnOk result (IsWellFormed text.now) }
+    ensures shape { IfOk result (λ answer. answer ≡ shape text.now) }
+    ensures fault { IfErr result (IsFirstFault (first_fault text.now)) }
+    ensures few_ranges { IfOk result (λ answer. HasFewRanges text.now answer.lines) }
+    ensures few_rows { IfOk result
+        (λ answer. length answer.rows ≤ 2 * length (literals text.now) + 1) }
+{
+    let ranges = judge(alloc, text)?;
+    let visited = numbers_to_visit(alloc, &ranges)?;
+    let (done, rows) = pass_over(alloc, text, &visited)?;
+    Ok(Answer { done, rows })
+}
+
+/// The answer of a document, or its first fault, as `evaluate` gives it, by whole sets.
+///
+/// Each word takes sets off a stack and puts one there, and costs the ranges of these sets; the
+/// table is made by a sweep over the bounds of all ranges of the names' last lines.
+pub fn evaluate_by_sets<'t>(alloc: Global, text: &'t [u8]) -> Result<Answer<'t>, AlgebraError>
     ensures well_formed { OnOk result (IsWellFormed text.now) }
     ensures shape { IfOk result (λ answer. answer ≡ shape text.now) }
     ensures fault { IfErr result (IsFirstFault (first_fault text.now)) }
 {
     let done = evaluate_lines(alloc, text)?;
     let table = tabulate(alloc, &done)?;
-    Ok(Answer { done, table })
+    let rows = rows_of_table(alloc, &table)?;
+    Ok(Answer { done, rows })
 }
 
 /// The bytes of the answer of a document, or its first fault. It costs as `evaluate` and

@@ -6,19 +6,23 @@
 #![tactic(auto)]
 
 mod answer;
+mod compile;
 mod evaluator;
 mod fault;
+mod judge;
 pub mod laws;
 mod line;
 mod named_lines;
+mod names;
 mod number;
+mod pass;
 mod print;
 mod sample;
 mod table;
 mod truth;
 mod word;
 
-pub use answer::{Answer, evaluate, evaluate_document};
+pub use answer::{Answer, evaluate, evaluate_by_sets, evaluate_document};
 pub use fault::AlgebraError;
 pub use line::{LineForm, read_line};
 pub use number::read_number;
@@ -26,6 +30,8 @@ pub use sample::sample_text;
 pub use truth::truths_at;
 pub use word::{Name, Word, read_word};
 
+#[cfg(test)]
+mod both_tests;
 #[cfg(test)]
 mod sample_tests;
 #[cfg(test)]

@@ -3,10 +3,10 @@ ghost use Rattle.std.specs.Prelude.{◌≡◌, ◌++◌, ℤ, OnOk, map};
 ghost use Rattle.set_document.specs.Words.{letters};
 ghost use Rattle.set_document.specs.Answer.{range_text, further_text, list_text, line_text, lines_text, name_text, row_text, rows_text};
 ghost use Rattle.set_document.specs.Lines.{shown_lines};
-ghost use Rattle.set_document.specs.Tabled.{tabled};
+ghost use Rattle.set_document.specs.Tabled.{table_rows};
 
 use crate::named_lines::Line;
-use crate::table::Table;
+use crate::table::TableRow;
 use crate::word::Name;
 use element_core::NoMemory;
 use range_map::{Range, RangeIter, RangeSet};
@@ -109,14 +109,70 @@ fn push_row(
 pub(crate) fn push_rows(
     out: &mut Vec<u8>,
     names: &SortedVectorMap<Name<'_>, usize>,
-    table: &Table,
+    rows: &[TableRow],
 ) -> Result<(), NoMemory>
     ensures { OnOk result
         (out.new.items ≡ out.old.items ++ rows_text (map (λ p. letters p.0) names.now.pairs)
-        (tabled table.now.groups table.now.slots)) }
+        (table_rows rows.now)) }
 {
-    for (range, slot) in table.slots.range_values() {
-        push_row(out, names, range, table.held_in(*slot))?;
+    for row in rows {
+        push_row(out, names, &row.numbers, &row.held)?;
     }
     Ok(())
+}
+
+// How many bytes a number takes.
+fn number_len(n: i64) -> usize {
+    let digits = match n.unsigned_abs().checked_ilog10() {
+        Some(log) => (log as usize).saturating_add(1),
+        None => 1,
+    };
+    if n < 0 {
+        digits.saturating_add(1)
+    } else {
+        digits
+    }
+}
+
+// How many bytes a range takes, with what joins it to others.
+fn range_len(range: &Range<i64>) -> usize {
+    number_len(range.start())
+        .saturating_add(number_len(range.end()))
+        .saturating_add(6)
+}
+
+// How many bytes a line takes, or a few more.
+fn line_len(line: &Line<'_>) -> usize {
+    let mut total = line.name.as_bytes().len().saturating_add(8);
+    for range in line.set.ranges() {
+        total = total.saturating_add(range_len(&range));
+    }
+    total
+}
+
+// How many bytes a row takes, or a few more.
+fn row_len(names: &SortedVectorMap<Name<'_>, usize>, row: &TableRow) -> usize {
+    let mut total = range_len(&row.numbers);
+    for position in &row.held {
+        if let Some((name, _)) = names.get_key_value_at_index(*position) {
+            total = total.saturating_add(name.as_bytes().len().saturating_add(1));
+        }
+    }
+    total
+}
+
+// Room for the bytes of lines and rows. It spares that the bytes are moved as they grow, and no more.
+pub(crate) fn room_for(
+    lines: &[Line<'_>],
+    names: &SortedVectorMap<Name<'_>, usize>,
+    rows: &[TableRow],
+) -> usize {
+    let mut total: usize = 0;
+    for line in lines {
+        total = total.saturating_add(line_len(line));
+    }
+    for row in rows {
+        total = total.saturating_add(row_len(names, row));
+    }
+    total
 }

@@ -1,5 +1,5 @@
 //! The table of a document: which names hold where.
-ghost use Rattle.std.specs.Prelude.{◌≡◌, ◌++◌, ℤ, ◌≤ℤ◌, nat_eq, map, IfOk, OnOk, Some, slice_get, option_map, length};
+ghost use Rattle.std.specs.Prelude.{◌≡◌, ◌++◌, ℤ, ◌≤ℤ◌, nat_eq, map, IfOk, OnOk, Some};
 ghost use Rattle.std.specs.Cmp.Lexicographic.{pointwise};
 ghost use Rattle.number_line.specs.Rows.{with_places};
 ghost use Rattle.number_line.specs.Valued.{value_at, IsCanonicalMap};
@@ -8,7 +8,7 @@ ghost use Rattle.set_document.specs.Lines.{lines_of, names_of, AllCanonical};
 ghost use Rattle.set_document.specs.Names.{IsIndex};
 ghost use Rattle.set_document.specs.Numbers.{least, greatest};
 ghost use Rattle.set_document.specs.Table.{held};
-ghost use Rattle.set_document.specs.Tabled.{held_at_place, tabled};
+ghost use Rattle.set_document.specs.Tabled.{held_at_place, table_rows, tabled};
 ghost use Rattle.set_document.specs.Truth.{at};
 
 use crate::named_lines::NamedLines;
@@ -17,6 +17,13 @@ use element_core::NoMemory;
 use range_map::{Range, RangeMap, RangeSet};
 use range_multimap::{Group, RangeMultiMap};
 use std::alloc::Global;
+
+/// A row: its numbers, and the places of the names that hold there.
+#[derive(Drop)]
+pub(crate) struct TableRow {
+    pub(crate) numbers: Range<i64>,
+    pub(crate) held: Vec<usize>,
+}
 
 /// The names that hold at the same numbers, grouped, and the slot of each number: the place of its
 /// group, or none.
@@ -27,23 +34,8 @@ pub(crate) struct Table {
 }
 
 impl Table {
-    pub(crate) fn num_rows(&self) -> usize
-        ensures { result ≡ length (tabled self.now.groups self.now.slots) }
-    {
-        self.slots.range_values().len()
-    }
-
-    // The numbers of a row, and the places of the names that hold there.
-    pub(crate) fn row(&self, index: usize) -> Option<(Range<i64>, &[usize])>
-        ensures { option_map (λ row. (row.0, row.1.now)) result ≡ slice_get
-            (tabled self.now.groups self.now.slots) index }
-    {
-        let (range, slot) = self.slots.range_values().as_slice().get(index)?;
-        Some((*range, self.held_in(*slot)))
-    }
-
     // The places of the names of a slot.
-    pub(crate) fn held_in(&self, slot: Option<usize>) -> &[usize]
+    fn held_in(&self, slot: Option<usize>) -> &[usize]
         ensures { result.now ≡ held_at_place self.now.groups slot }
     {
         let Some(place) = slot else {
@@ -122,4 +114,22 @@ pub(crate) fn tabulate(alloc: Global, done: &NamedLines<'_>) -> Result<Table, No
     let held = RangeMapBlaze::from_pairs(alloc, places)?;
     let slots = held.fill_gaps(alloc)?;
     Ok(Table { groups, slots })
+}
+
+// The rows of a table, each with its own list of places.
+pub(crate) fn rows_of_table(alloc: Global, table: &Table) -> Result<Vec<TableRow>, NoMemory>
+    ensures { IfOk result
+        (λ rows. table_rows rows.items ≡ tabled table.now.groups table.now.slots) }
+{
+    let slots = table.slots.range_values();
+    let mut rows = Vec::with_capacity(alloc, slots.len())?;
+    for (range, slot) in slots {
+        let mut held = Vec::new(alloc);
+        held.extend_from_slice(table.held_in(*slot))?;
+        rows.push(TableRow {
+            numbers: *range,
+            held,
+        })?;
+    }
+    Ok(rows)
 }

@@ -2,7 +2,8 @@
 //! with it.
 ghost use Rattle.std.specs.Prelude.{◌≡◌, ◌<◌, ◌++◌, ◌∷◌, [], IfOk, OnOk, MatchOption, length, reverse, map, List, option_map, option_copied};
 ghost use Rattle.set_document.specs.Text.{words};
-ghost use Rattle.set_document.specs.Truth.{at, named, latest, after_word, after_words, last_value};
+ghost use Rattle.set_document.specs.Truth.{at, named, latest, after_word, after_words};
+ghost use Rattle.truth_blocks.specs.Stack.{last_value};
 ghost use Rattle.set_document.specs.Words.{letters, shown};
 ghost use Rattle.set_document.specs.Lines.{pairs_of};
 

@@ -5,8 +5,8 @@ use Rattle.cut_points.specs.Cuts.{from_cuts}
 use Rattle.cut_points.proofs.EitherLemmas.{either_ascend, either_holds}
 use Rattle.cut_points.proofs.operations.symmetric_difference.Goals as goal
 
-pub set_of-requires : goal.set_of-requires
-set_of-requires g c =
+pub from_cut_slice-requires : goal.from_cut_slice-requires
+from_cut_slice-requires g c =
     let n = g.T.Element.numbers in
     let a = c.in_ok-left_cuts.left_cuts.items in
     let b = c.in_ok-right_cuts.right_cuts.items in

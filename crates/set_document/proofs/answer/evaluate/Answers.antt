@@ -1,9 +1,18 @@
-use Rattle.set_document.proofs.AnswerLemmas.{shape_is}
+use Rattle.set_document.proofs.LawLemmas.{few_ranges, few_rows}
+use Rattle.set_document.proofs.PassLemmas.{shape_of_parts}
 use Rattle.set_document.proofs.answer.evaluate.Goals as goal
 
-pub returns-clause-shape : goal.returns-clause-shape
-returns-clause-shape c =
-    let done = c.in_ok-done.done in
-    let table = c.in_ok-table.table in
-    shape_is c.args.text.now done.lines.items done.latest.pairs table.groups table.slots c.in_ok-done.ensures.canonical c.in_ok-done.ensures.lines c.in_ok-done.ensures.indexed
-    c.in_ok-table.ensures.canonical c.in_ok-table.ensures.values
+pub pass_over-requires : goal.pass_over-requires
+pass_over-requires c = rw (c.deref-2.ensures.value) (rw (c.deref.ensures.value, c.in_ok-ranges.ensures.ranges) at c.in_ok-visited.ensures)
+
+pub returns : goal.returns
+returns c =
+    let text = c.args.text.now in
+    let parts = c.in_ok-done.ensures in
+    record {
+      well_formed = c.in_ok-ranges.ensures.fault_free;
+      shape = shape_of_parts text _ parts.lines parts.names parts.rows;
+      fault = tt;
+      few_ranges = rw parts.lines (few_ranges text);
+      few_rows = rw parts.rows (few_rows text);
+    }

@@ -1,12 +1,10 @@
 -- What is written, and what the rows left will add, is the whole.
-use Rattle.std.proofs.Common.{◌≡◌, ◌++◌, map, w64}
-use Rattle.element_core.specs.Numberings.{signed}
-use Rattle.range_map.specs.Valued.{pairs_in_numbers}
+use Rattle.std.proofs.Common.{◌≡◌, ◌++◌, map, drop}
 use Rattle.set_document.specs.Answer.{rows_text}
-use Rattle.set_document.specs.Tabled.{tabled}
+use Rattle.set_document.specs.Tabled.{table_rows}
 use Rattle.set_document.specs.Words.{letters}
 use Rattle.set_document.proofs.print.push_rows.Given as goal
 
-abbrev pub invariant-loop-range : goal.invariant-loop-range
-invariant-loop-range l = l.out.items ++ rows_text (map (λ p. letters p.0) l.names.pairs) (tabled l.table.groups (pairs_in_numbers (signed w64) l.range-iterator.rest.now))
-    ≡ l.fn.out.items ++ rows_text (map (λ p. letters p.0) l.names.pairs) (tabled l.table.groups l.table.slots)
+abbrev pub invariant-loop-row : goal.invariant-loop-row
+invariant-loop-row l = l.out.items ++ rows_text (map (λ p. letters p.0) l.names.pairs) (table_rows (drop l.row-index l.rows))
+    ≡ l.initial.out.items ++ rows_text (map (λ p. letters p.0) l.names.pairs) (table_rows l.rows)

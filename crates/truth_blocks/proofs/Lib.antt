@@ -1,0 +1,5 @@
+pub mod BitLemmas
+pub mod BlockLemmas
+pub mod NoteLemmas
+pub mod WalkLemmas
+pub mod RowLemmas

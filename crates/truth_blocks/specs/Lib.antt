@@ -1,0 +1,4 @@
+pub mod Stack
+pub mod Blocks
+pub mod Notes
+pub mod Rows
