@@ -10,15 +10,15 @@ use std::cmp::Ordering;
 
 /// Which items a walk gives.
 #[derive(Clone, Copy)]
-pub(crate) struct Wants {
+pub struct Wants {
     /// The left items to which no right one is equal.
-    pub(crate) left: bool,
+    pub left: bool,
 
     /// Of two equal items, the left one.
-    pub(crate) both: bool,
+    pub both: bool,
 
     /// The right items to which no left one is equal.
-    pub(crate) right: bool,
+    pub right: bool,
 }
 
 /// The two sources of a stream.
@@ -99,8 +99,8 @@ impl<I: Iterator + Clone, J: Iterator<Item = I::Item> + Clone> Sides<I, J>
 where
     I::Item: Clone,
 {
-    // Clones of both sources, with clones of the items that are held in front of them.
-    pub(crate) fn try_clone(&self) -> Result<Self, AllocError>
+    /// Clones of both sources, with clones of the items that are held in front of them.
+    pub fn try_clone(&self) -> Result<Self, AllocError>
         ensures { IfOk result (λ copy. IsAheadClone I.is_clone I.Item.is_clone self.now.left copy.left
             × IsAheadClone J.is_clone I.Item.is_clone self.now.right copy.right) }
     {

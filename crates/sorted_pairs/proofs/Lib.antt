@@ -1,0 +1,2 @@
+pub mod MatchSteps
+pub mod JoinLemmas
