@@ -1,4 +1,4 @@
--- What the four joins give: their steps, their order, their runs and their lists.
+-- What the four joins give: their order, their runs and their lists.
 use Rattle.std.proofs.Common.{◌≡◌, List, [], ◌∷◌, ◌++◌, Option, Some, None, option_to_list, refl, sym, ap, subst, ◌∙◌}
 use Rattle.std.specs.Iterator.{Yields, AlwaysYields}
 use Rattle.std.specs.Cmp.{IsTotalOrder}
@@ -16,38 +16,6 @@ use Rattle.sorted_pairs.specs.JoinStreams.{keys_ascend}
 use Rattle.sorted_pairs.specs.Joined.{JoinsRuns, JoinsLists}
 use Rattle.sorted_pairs.specs.MatchLaws.{join-walk, left_join-walk, right_join-walk, outer_join-walk}
 use Rattle.sorted_pairs.specs.Matches.{read_all, join_walk, left_join_walk, right_join_walk, outer_join_walk}
-
--- ---- one step, read by a view
-
-module _ {S T A B M C : Type 0} (view : M → Option C) (op : List A → List B → List M) (firsts : S → Option A → S → Type 0) (seconds : T → Option B → T → Type 0) where
-  abbrev read_op : List A → List B → List C
-  read_op xs ys = read_all view (op xs ys)
-
-  pub reads-item : {s t : Sides S T A B} (m : M) (c : C) → view m ≡ Some c → StepsTwo op firsts seconds s (Some m) t → StepsTwo read_op firsts seconds s (Some c) t
-  reads-item m c e k = record {
-    went = record {
-      us = k.went.us;
-      vs = k.went.vs;
-      passed_left = k.went.passed_left;
-      passed_right = k.went.passed_right;
-      gave = λ xs ys i j. ap (read_all view) (k.went.gave xs ys i j) ∙ ap (λ o. option_to_list o ++ read_op xs ys) e;
-    };
-    ended = tt;
-  }
-
-  pub reads-none : {s t : Sides S T A B} → StepsTwo op firsts seconds s None t → StepsTwo read_op firsts seconds s None t
-  reads-none k = record {
-    went = record {
-      us = k.went.us;
-      vs = k.went.vs;
-      passed_left = k.went.passed_left;
-      passed_right = k.went.passed_right;
-      gave = λ xs ys i j. ap (read_all view) (k.went.gave xs ys i j);
-    };
-    ended = λ xs ys i j. ap (read_all view) (k.ended xs ys i j);
-  }
-
--- ---- order, runs and lists
 
 module _ {S T K V W : Type 0} {firsts : S → Option (K × V) → S → Type 0} {seconds : T → Option (K × W) → T → Type 0} where
   pub sides-ascend : (cmp : K → K → Ordering) {x : S} {y : T} (s : Sides S T (K × V) (K × W)) → s ≡ sides_of x y → InOrder (by_key cmp) firsts x → InOrder (by_key cmp) seconds y → keys_ascend cmp firsts seconds s

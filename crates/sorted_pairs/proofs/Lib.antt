@@ -1,2 +1,3 @@
 pub mod MatchSteps
 pub mod JoinLemmas
+pub mod KeyRuns

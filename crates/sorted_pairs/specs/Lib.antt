@@ -3,3 +3,9 @@ pub mod MatchLaws
 pub mod JoinStreams
 pub mod Joined
 pub mod JoinLaws
+pub mod KeyStreams
+pub mod KeyLaws
+pub mod Calls
+pub mod ValueStreams
+pub mod ValueLaws
+pub mod AssumedStreams

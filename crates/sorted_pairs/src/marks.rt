@@ -1,14 +1,20 @@
 //! The mark of iterators of pairs whose keys strictly ascend, and the calls that it gives.
-ghost use Rattle.std.specs.Prelude.{◌≡◌, Option};
-ghost use Rattle.ordered_lists.specs.Joins.{join, left_join, right_join, outer_join};
+ghost use Rattle.std.specs.Prelude.{◌≡◌, List, Option};
+ghost use Rattle.std.specs.Iterator.Runs.{EachRunFrom, SomeRun};
+ghost use Rattle.ordered_lists.specs.Joins.{keys, join, left_join, right_join, outer_join};
 ghost use Rattle.ordered_lists.specs.Lists.{by_key};
-ghost use Rattle.sorted_iter.specs.Orders.{InOrder};
+ghost use Rattle.sorted_iter.specs.Orders.{InOrder, GivesList};
 ghost use Rattle.sorted_iter.specs.TwoSides.{sides_of};
 ghost use Rattle.sorted_pairs.specs.JoinStreams.{keys_ascend, join_sides, join_steps, left_join_sides, left_join_steps, right_join_sides, right_join_steps, outer_join_sides, outer_join_steps};
 ghost use Rattle.sorted_pairs.specs.Joined.{JoinsRuns, JoinsLists};
+ghost use Rattle.sorted_pairs.specs.KeyStreams.{keys_source, keys_steps};
+ghost use Rattle.sorted_pairs.specs.ValueStreams.{map_values_source, map_values_closure, CallsInTurn, filter_map_values_source, filter_map_values_closure, AsksInTurn};
 
+use crate::filter_map_values::FilterMapValues;
 use crate::join::Join;
+use crate::keys::Keys;
 use crate::left_join::LeftJoin;
+use crate::map_values::MapValues;
 use crate::outer_join::OuterJoin;
 use crate::right_join::RightJoin;
 use sorted_iter::Sides;
@@ -120,6 +126,40 @@ pub trait SortedPairIterator<K: Ord, V>: SortedByKey<K, V> + Sized {
         OuterJoin {
             sides: Sides::new(self, that),
         }
+    }
+
+    /// Each key with what `f` answers on its value. `f` is called once on the value of each pair that is taken, in the order
+    /// in which they are taken, from whichever end.
+    final fn map_values<W, F: FnMut(V) -> W>(self, f: F) -> MapValues<Self, F>
+    where
+        ensures source { map_values_source result ≡ self }
+        ensures closure { map_values_closure result ≡ f }
+        ensures calls { CallsInTurn Self.next_gives F.FnMut result self f }
+    {
+        MapValues { source: self, f }
+    }
+
+    /// Each key on whose value `f` answers `Some(w)`, with w. `f` is called once on the value of each pair that is taken, in
+    /// order; those on which it answers `None` are passed over.
+    final fn filter_map_values<W, F: FnMut(V) -> Option<W>>(self, f: F) -> FilterMapValues<Self, F>
+    where
+        ensures source { filter_map_values_source result ≡ self }
+        ensures closure { filter_map_values_closure result ≡ f }
+        ensures calls { AsksInTurn Self.next_gives F.FnMut result self f }
+    {
+        FilterMapValues { source: self, f }
+    }
+
+    /// The keys, ascending.
+    final fn keys(self) -> Keys<Self>
+        ensures source { keys_source result ≡ self }
+        ensures runs { EachRunFrom (keys_steps Self.next_gives) result
+            (λ p. SomeRun Self.next_gives self (λ q. (p.items ≡ keys q.items)
+            × (p.whole ≡ q.whole))) }
+        ensures lists { (ps : List (K × V)) → GivesList Self.next_gives self ps
+            → GivesList (keys_steps Self.next_gives) result (keys ps) }
+    {
+        Keys { source: self }
     }
 }
 
