@@ -9,3 +9,4 @@ pub mod Calls
 pub mod ValueStreams
 pub mod ValueLaws
 pub mod AssumedStreams
+pub mod MarkLaws

@@ -1,6 +1,7 @@
 //! Streams of pairs whose keys strictly ascend: their joins by key, their keys, and their values by a function.
 #![tactic(auto)]
 
+mod adapter_marks;
 mod assumed;
 mod filter_map_values;
 mod join;
@@ -12,6 +13,7 @@ mod marks;
 mod matching;
 mod outer_join;
 mod right_join;
+mod std_marks;
 
 pub use crate::assumed::{AssumeSortedByKey, AssumeSortedByKeyExt};
 pub use crate::filter_map_values::FilterMapValues;
