@@ -37,7 +37,7 @@ module _ {A : Type 0} {cmp : A → A → Ordering} (o : IsTotalOrder cmp) (R : A
   like_right : (x z y : A) → R x z → cmp y x ≡ cmp y z
   like_right x z y h = o.antisymm y x ∙ ap ordering_reverse (like x z y h) ∙ sym (o.antisymm y z)
 
-  like_both : (x z y w : A) → R x z → R y w → cmp x y ≡ cmp z w
+  pub like_both : (x z y w : A) → R x z → R y w → cmp x y ≡ cmp z w
   like_both x z y w h k = like x z y h ∙ like_right y w z k
 
   all-alike : (x z : A) (ys ws : List A) → R x z → AllZip R ys ws → AllByRecursion (λ y. cmp x y ≡ Less) ys → AllByRecursion (λ y. cmp z y ≡ Less) ws

@@ -99,8 +99,8 @@ impl<I: Iterator + Clone, J: Iterator<Item = I::Item> + Clone> Sides<I, J>
 where
     I::Item: Clone,
 {
-    /// Clones of both sources, with clones of the items that are held in front of them.
-    pub fn try_clone(&self) -> Result<Self, AllocError>
+    // Clones of both sources, with clones of the items that are held in front of them.
+    pub(crate) fn try_clone(&self) -> Result<Self, AllocError>
         ensures { IfOk result (λ copy. IsAheadClone I.is_clone I.Item.is_clone self.now.left copy.left
             × IsAheadClone J.is_clone I.Item.is_clone self.now.right copy.right) }
     {

@@ -1,3 +1,5 @@
 pub mod MatchSteps
 pub mod JoinLemmas
 pub mod KeyRuns
+pub mod JoinHintLemmas
+pub mod JoinCopyLemmas

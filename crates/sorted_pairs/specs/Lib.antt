@@ -10,3 +10,5 @@ pub mod ValueStreams
 pub mod ValueLaws
 pub mod AssumedStreams
 pub mod MarkLaws
+pub mod JoinHints
+pub mod JoinCopies
