@@ -12,3 +12,4 @@ pub mod AssumedStreams
 pub mod MarkLaws
 pub mod JoinHints
 pub mod JoinCopies
+pub mod Sources
