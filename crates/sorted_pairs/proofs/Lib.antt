@@ -4,3 +4,4 @@ pub mod KeyRuns
 pub mod JoinHintLemmas
 pub mod JoinCopyLemmas
 pub mod Literals
+pub mod RefJoins

@@ -1,5 +1,7 @@
 //! The stream of FilterMapValues.
-ghost use Rattle.std.specs.Iterator.{IsFinite};
+ghost use Rattle.std.specs.Prelude.{◌≡◌, IfSome};
+ghost use Rattle.std.specs.Iterator.{IsFinite, UpTo};
+ghost use Rattle.std.specs.Iterator.SizeHint.{IsWithinCount};
 ghost use Rattle.sorted_pairs.specs.Calls.{MayBeCalled};
 ghost use Rattle.sorted_pairs.specs.ValueLaws.{filter_map_values-in_order, filter_map_values-goes_on};
 ghost use Rattle.sorted_pairs.specs.ValueStreams.{filter_map_values_source, filter_map_values_closure, filter_map_values_steps};
@@ -40,7 +42,11 @@ impl<K: Drop, V, W, I: Iterator<Item = (K, V)>, F: FnMut(V) -> Option<W>> Iterat
         None
     }
 
-    fn size_hint(&self) -> (usize, Option<usize>) {
+    fn size_hint(&self) -> (usize, Option<usize>)
+        ensures lower { IsWithinCount result.0 (I.remaining (filter_map_values_source self.now)) }
+        ensures upper { IfSome result.1 (UpTo (I.remaining (filter_map_values_source self.now))) }
+        ensures low { result.0 ≡ 0 }
+    {
         (0, self.source.size_hint().1)
     }
 }
