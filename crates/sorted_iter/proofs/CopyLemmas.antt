@@ -37,7 +37,7 @@ module _ {A : Type 0} {cmp : A → A → Ordering} (o : IsTotalOrder cmp) (R : A
   like_right : (x z y : A) → R x z → cmp y x ≡ cmp y z
   like_right x z y h = o.antisymm y x ∙ ap ordering_reverse (like x z y h) ∙ sym (o.antisymm y z)
 
-  like_both : (x z y w : A) → R x z → R y w → cmp x y ≡ cmp z w
+  pub like_both : (x z y w : A) → R x z → R y w → cmp x y ≡ cmp z w
   like_both x z y w h k = like x z y h ∙ like_right y w z k
 
   all-alike : (x z : A) (ys ws : List A) → R x z → AllZip R ys ws → AllByRecursion (λ y. cmp x y ≡ Less) ys → AllByRecursion (λ y. cmp z y ≡ Less) ws
@@ -115,12 +115,12 @@ module _ {S A : Type 0} (steps : S → Option A → S → Type 0) where
 
 -- heads
 module _ {A : Type 0} (clones : A → A → Type 0) where
-  ended-clone : (h k : Head A) → IsHeadClone clones h k → is_ended h ≡ is_ended k
+  pub ended-clone : (h k : Head A) → IsHeadClone clones h k → is_ended h ≡ is_ended k
   ended-clone Unread k e = ap is_ended (sym e)
   ended-clone (Held x) k e = ap is_ended (sym e.2)
   ended-clone Ended k e = ap is_ended (sym e)
 
-  finite-clone : (h k : Head A) (a b : Count) → IsHeadClone clones h k → (IsFinite a → IsFinite b) → IsFinite (left_behind h a) → IsFinite (left_behind k b)
+  pub finite-clone : (h k : Head A) (a b : Count) → IsHeadClone clones h k → (IsFinite a → IsFinite b) → IsFinite (left_behind h a) → IsFinite (left_behind k b)
   finite-clone Unread k a b e f g = subst (λ z. IsFinite (left_behind z b)) (sym e) (f g)
   finite-clone (Held x) k a b e f g = subst (λ z. IsFinite (left_behind z b)) (sym e.2) (f g)
   finite-clone Ended k a b e f g = subst (λ z. IsFinite (left_behind z b)) (sym e) tt
@@ -138,7 +138,7 @@ bare false = (Unread, refl, refl)
 -- sources with what is held
 module _ {S A : Type 0} (clones : A → A → Type 0) (R : A → A → Type 0) (equal : (x y : A) → clones x y → R x y) (itself : (x : A) → R x x) {steps : S → Option A → S → Type 0} {s t : Ahead S A}
     (same : (xs : List A) (w : Bool) → DrainsIf steps (w ≡ true) t.source xs → DrainsIf steps (w ≡ true) s.source xs) (head : IsHeadClone clones s.head t.head) where
-  will-clone : (xs : List A) → WillGive steps s xs → (zs : List A) × AllZip R xs zs × WillGive steps t zs
+  pub will-clone : (xs : List A) → WillGive steps s xs → (zs : List A) × AllZip R xs zs × WillGive steps t zs
   will-clone xs w = (
     pending t.head ++ w.rest,
     subst (λ l. AllZip R l (pending t.head ++ w.rest)) (sym w.is) (zip-append R itself (pending s.head) (pending t.head) w.rest (pending-clone clones R equal s.head t.head head)),
@@ -151,7 +151,7 @@ module _ {S A : Type 0} (clones : A → A → Type 0) (R : A → A → Type 0) (
   )
 
   module _ {cmp : A → A → Ordering} (o : IsTotalOrder cmp) (like : (x z y : A) → R x z → cmp x y ≡ cmp z y) where
-    ascends-clone : AheadAscends cmp steps s → AheadAscends cmp steps t
+    pub ascends-clone : AheadAscends cmp steps s → AheadAscends cmp steps t
     ascends-clone h = record { ascends = λ us u p. go us u p (is_ended t.head) refl }
       where
         held : AllZip R (pending s.head) (pending t.head)
@@ -177,7 +177,7 @@ module _ {S A : Type 0} (clones : A → A → Type 0) (R : A → A → Type 0) (
             subst (IsStrictlySortedBy cmp) p.items (ascends-alike o R like (pending s.head ++ p.read) (pending t.head ++ p.read) (zip-append R itself (pending s.head) (pending t.head) p.read held) up)
 
 -- equality and order
-like-of : {A : Type 0} {cmp : A → A → Ordering} {eq : A → A → Bool} {partial : A → A → Option Ordering} → IsPartialOrder eq partial → ((x y : A) → partial x y ≡ Some (cmp x y)) → (x z y : A) → eq z x ≡ true → cmp x y ≡ cmp z y
+pub like-of : {A : Type 0} {cmp : A → A → Ordering} {eq : A → A → Bool} {partial : A → A → Option Ordering} → IsPartialOrder eq partial → ((x y : A) → partial x y ≡ Some (cmp x y)) → (x z y : A) → eq z x ≡ true → cmp x y ≡ cmp z y
 like-of p m x z y h = same_some _ _ (sym (m x y) ∙ sym (p.congr z x y h) ∙ m z y)
 
 -- the copies of the four streams

@@ -79,17 +79,17 @@ some-if : (b : Bool) (k n : ℕ) → k ≤ n → IfSome (if b then Some n else N
 some-if true k n h = h
 some-if false k n h = tt
 
-sum-bounds : (a b : Option ℕ) (m n k : ℕ) → IfSome a (λ z. m ≤ z) → IfSome b (λ z. n ≤ z) → k ≤ m + n → IfSome (sum_where_known a b) (λ z. k ≤ z)
+pub sum-bounds : (a b : Option ℕ) (m n k : ℕ) → IfSome a (λ z. m ≤ z) → IfSome b (λ z. n ≤ z) → k ≤ m + n → IfSome (sum_where_known a b) (λ z. k ≤ z)
 sum-bounds None b m n k h i j = tt
 sum-bounds (Some x) None m n k h i j = tt
 sum-bounds (Some x) (Some y) m n k h i j = some-if (nat_lt (x + y) (2 ^ 64)) k (x + y) (omega arith)
 
-lesser-bounds : (a b : Option ℕ) (k : ℕ) → IfSome a (λ z. k ≤ z) → IfSome b (λ z. k ≤ z) → IfSome (lesser_where_known a b) (λ z. k ≤ z)
+pub lesser-bounds : (a b : Option ℕ) (k : ℕ) → IfSome a (λ z. k ≤ z) → IfSome b (λ z. k ≤ z) → IfSome (lesser_where_known a b) (λ z. k ≤ z)
 lesser-bounds None b k h i = tt
 lesser-bounds (Some x) None k h i = tt
 lesser-bounds (Some x) (Some y) k h i = omega arith
 
-falls : (a : Option ℕ) (k m : ℕ) → k ≤ m → IfSome a (λ z. m ≤ z) → IfSome a (λ z. k ≤ z)
+pub falls : (a : Option ℕ) (k m : ℕ) → k ≤ m → IfSome a (λ z. m ≤ z) → IfSome a (λ z. k ≤ z)
 falls None k m h i = tt
 falls (Some x) k m h i = omega arith
 
@@ -99,7 +99,7 @@ less-bounds low None m n k h i j = omega arith
 less-bounds low (Some x) m n k h i j = omega arith
 
 -- what bounds the rest of a source bounds it with the item that is held
-ahead-bounds : {A : Type 0} (h : Head A) (a : Hint) (xs rest : List A) → xs ≡ pending h ++ rest → (is_ended h ≡ true → rest ≡ []) → (is_ended h ≡ false → Bounds a rest) → Bounds (ahead_hint h a) xs
+pub ahead-bounds : {A : Type 0} (h : Head A) (a : Hint) (xs rest : List A) → xs ≡ pending h ++ rest → (is_ended h ≡ true → rest ≡ []) → (is_ended h ≡ false → Bounds a rest) → Bounds (ahead_hint h a) xs
 ahead-bounds Unread a xs rest e o b = subst (Bounds a) (sym e) (b refl)
 ahead-bounds (Held x) a xs rest e o b =
     let l : length xs ≡ suc (length rest) = ap length e in

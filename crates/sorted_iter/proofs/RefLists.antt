@@ -39,7 +39,7 @@ module _ {S A D : Type 0} (view : A → D) (steps : S → Option A → S → Typ
   )
 
   -- a run has the front of what always comes, and the rest may follow
-  front_of : (lift : D → A) → ((d : D) → view (lift d) ≡ d) → (us : List A) (xs : List D) (s : S) (w : Bool) → AlwaysYields steps view s xs → DrainsIf steps (w ≡ true) s us
+  pub front_of : (lift : D → A) → ((d : D) → view (lift d) ≡ d) → (us : List A) (xs : List D) (s : S) (w : Bool) → AlwaysYields steps view s xs → DrainsIf steps (w ≡ true) s us
       → (rest : List A) × (w ≡ true → rest ≡ []) × (map view (us ++ rest) ≡ xs)
   front_of lift back [] xs s w h d = (map lift xs, none xs h, backs xs)
     where
@@ -60,11 +60,11 @@ map-append : {A D : Type 0} (view : A → D) (xs ys : List A) → map view (xs +
 map-append view [] ys = refl
 map-append view (x ∷ xs) ys = ap (λ l. view x ∷ l) (map-append view xs ys)
 
-begins-map : {A D : Type 0} (view : A → D) (w : Bool) (ys zs : List A) → Begins w ys zs → Begins w (map view ys) (map view zs)
+pub begins-map : {A D : Type 0} (view : A → D) (w : Bool) (ys zs : List A) → Begins w ys zs → Begins w (map view ys) (map view zs)
 begins-map view w ys zs b = (map view b.0, ap (map view) b.1 ∙ map-append view ys b.0, λ e. ap (map view) (b.2 e))
 
 -- some reference to x
-abbrev pointing : {X : Type 0} → X → Bor X
+abbrev pub pointing : {X : Type 0} → X → Bor X
 pointing x = record { ref_ptr = (0, 0); now = x }
 
 module _ {S T U X : Type 0} (cmp : X → X → Ordering) (steps : U → Option (Bor X) → U → Type 0) (s : U) (firsts : S → Option (Bor X) → S → Type 0) (x : S) (seconds : T → Option (Bor X) → T → Type 0) (y : T) where

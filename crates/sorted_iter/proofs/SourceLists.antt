@@ -21,7 +21,7 @@ use Rattle.sorted_iter.specs.Orders.{GivesList}
 -- an iterator whose state shows the list of what is left
 module _ {S A : Type 0} (steps : S → Option A → S → Type 0) (rest : S → List A) (gives : (s t : S) (x : A) → steps s (Some x) t → rest s ≡ x ∷ rest t) where
   -- it gives that list where it ends once the list is empty
-  list-of_rest : ((s t : S) → steps s None t → rest s ≡ []) → (xs : List A) (s : S) → rest s ≡ xs → AlwaysYields steps (λ x. x) s xs
+  pub list-of_rest : ((s t : S) → steps s None t → rest s ≡ []) → (xs : List A) (s : S) → rest s ≡ xs → AlwaysYields steps (λ x. x) s xs
   list-of_rest ends [] s e = λ x j k. let f : [] ≡ x ∷ rest j = sym e ∙ gives s j x k in absurd cc
   list-of_rest ends (y ∷ ys) s e = (
     λ j k. let f : [] ≡ y ∷ ys = sym (ends s j k) ∙ e in absurd cc,

@@ -18,7 +18,7 @@ use Rattle.sorted_iter.specs.TwoSidesLemmas.{Through, through-yields, through-al
 
 module _ {S A : Type 0} {steps : S → Option A → S → Type 0} where
   -- what was read of a source in order ascends
-  ahead_ascends : {cmp : A → A → Ordering} {x : S} → InOrder cmp steps x → AheadAscends cmp steps (ahead_of x)
+  pub ahead_ascends : {cmp : A → A → Ordering} {x : S} → InOrder cmp steps x → AheadAscends cmp steps (ahead_of x)
   ahead_ascends {cmp} {x} h = record {
     ascends = λ us t p.
         let d = reads-drains steps p.read false (is_ended t.head) x t.source refl p.calls in
@@ -26,7 +26,7 @@ module _ {S A : Type 0} {steps : S → Option A → S → Type 0} where
   }
 
   -- a source that was not asked yet will give its list
-  fresh_gives : {x : S} {xs : List A} → GivesList steps x xs → WillGive steps (ahead_of x) xs
+  pub fresh_gives : {x : S} {xs : List A} → GivesList steps x xs → WillGive steps (ahead_of x) xs
   fresh_gives {xs = xs} h = record { rest = xs; is = refl; at_end = λ e. absurd (true≢false (sym e)); runs = λ _. h.runs }
 
 module _ {S T A : Type 0} {cmp : A → A → Ordering} {firsts : S → Option A → S → Type 0} {seconds : T → Option A → T → Type 0} where
@@ -35,14 +35,14 @@ module _ {S T A : Type 0} {cmp : A → A → Ordering} {firsts : S → Option A 
 
 module _ {S T A B C : Type 0} (op : List A → List B → List C) (firsts : S → Option A → S → Type 0) (seconds : T → Option B → T → Type 0) (x : S) (y : T) where
   -- runs of the two sources behind calls that gave zs, and whether these went on to `None`
-  record Behind (zs : List C) (whole : Bool) : Type 0 where
-    us : List A
-    vs : List B
-    left_whole : Bool
-    right_whole : Bool
-    left_ran : DrainsIf firsts (left_whole ≡ true) x us
-    right_ran : DrainsIf seconds (right_whole ≡ true) y vs
-    front : (xs : List A) (ys : List B) → (left_whole ≡ true → xs ≡ []) → (right_whole ≡ true → ys ≡ []) → Begins whole zs (op (us ++ xs) (vs ++ ys))
+  pub record Behind (zs : List C) (whole : Bool) : Type 0 where
+    pub us : List A
+    pub vs : List B
+    pub left_whole : Bool
+    pub right_whole : Bool
+    pub left_ran : DrainsIf firsts (left_whole ≡ true) x us
+    pub right_ran : DrainsIf seconds (right_whole ≡ true) y vs
+    pub front : (xs : List A) (ys : List B) → (left_whole ≡ true → xs ≡ []) → (right_whole ≡ true → ys ≡ []) → Begins whole zs (op (us ++ xs) (vs ++ ys))
 
   -- all that the sources give is what was read of them, and what follows
   read_and_rest : {zs : List C} {t : Sides S T A B} (m : Gives op firsts seconds (sides_of x y) zs t) (xs : List A) (ys : List B) → (is_ended t.left.head ≡ true → xs ≡ []) → (is_ended t.right.head ≡ true → ys ≡ [])
@@ -51,7 +51,7 @@ module _ {S T A B C : Type 0} (op : List A → List B → List C) (firsts : S �
       ap₂ op (ap (λ l. l ++ xs) m.passed_left.items ∙ append_assoc m.us (pending t.left.head) xs) (ap (λ l. l ++ ys) m.passed_right.items ∙ append_assoc m.vs (pending t.right.head) ys)
       ∙ m.gave _ _ (record { rest = xs; is = refl; at_end = i }) (record { rest = ys; is = refl; at_end = j })
 
-  behind : (zs : List C) (whole : Bool) → DrainsIf (StepsTwo op firsts seconds) (whole ≡ true) (sides_of x y) zs → Behind zs whole
+  pub behind : (zs : List C) (whole : Bool) → DrainsIf (StepsTwo op firsts seconds) (whole ≡ true) (sides_of x y) zs → Behind zs whole
   behind zs false d =
       let t = d.0 in
       let m = yields-gives op firsts seconds zs (sides_of x y) t d.1 in

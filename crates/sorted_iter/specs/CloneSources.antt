@@ -50,7 +50,7 @@ module _ {S A : Type 0} (clones : S → S → Type 0) (can : S → Type 0) (left
 
 -- an iterator that copies what the iterator of a slice gives, which `it` is
 module _ {S X : Type 0} (it : S → Iter X) where
-  abbrev slice_steps : S → Option X → S → Type 0
+  abbrev pub slice_steps : S → Option X → S → Type 0
   slice_steps s r t = (o : Option (Bor X)) × iter_steps (it s) o (it t) × (r ≡ option_copied o)
 
   slice-follows : (s t u : S) (r : Option X) (o : Option (Bor X)) → iter_rest (it t) ≡ iter_rest (it s) → iter_steps (it t) o (it u) → r ≡ option_copied o → (v : S) × slice_steps s r v × (iter_rest (it u) ≡ iter_rest (it v))

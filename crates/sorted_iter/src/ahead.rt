@@ -83,8 +83,8 @@ where
         }
     }
 
-    // A hint of how many items `take` gives before its first `None`, from that of the source.
-    pub(crate) fn size_hint(&self) -> Hint
+    /// A hint of how many items `take` gives before its first `None`, from that of the source.
+    pub fn size_hint(&self) -> Hint
         ensures { (h : ℕ × Option ℕ) × IsHint (I.remaining self.now.source) h
             × (result ≡ ahead_hint self.now.head h) }
     {
@@ -109,8 +109,8 @@ impl<I: Iterator + Clone> Ahead<I>
 where
     I::Item: Clone,
 {
-    // A clone of the source, with a clone of the item that is held in front of it.
-    pub(crate) fn try_clone(&self) -> Result<Self, AllocError>
+    /// A clone of the source, with a clone of the item that is held in front of it.
+    pub fn try_clone(&self) -> Result<Self, AllocError>
         ensures { IfOk result (λ copy. IsAheadClone I.is_clone I.Item.is_clone self.now copy) }
     {
         let source = self.source.clone()?;

@@ -3,7 +3,7 @@ ghost use Rattle.std.specs.Prelude.{◌≡◌};
 ghost use Rattle.sorted_iter.specs.Hints.{sum_where_known, lesser_where_known, less_where_known, union_hint, intersection_hint, difference_hint, symmetric_difference_hint};
 
 /// A lower bound, and an upper one where it is known.
-pub(crate) type Hint = (usize, Option<usize>);
+pub type Hint = (usize, Option<usize>);
 
 // The sum of two upper bounds, where both are known and it fits.
 pub(crate) fn sum_of(a: Option<usize>, b: Option<usize>) -> Option<usize>
@@ -35,13 +35,15 @@ fn less_by(low: usize, high: Option<usize>) -> usize
     }
 }
 
-pub(crate) fn of_union(a: Hint, b: Hint) -> Hint
+/// The hint of the items of either side.
+pub fn of_union(a: Hint, b: Hint) -> Hint
     ensures { result ≡ union_hint a b }
 {
     (a.0.max(b.0), sum_of(a.1, b.1))
 }
 
-pub(crate) fn of_intersection(a: Hint, b: Hint) -> Hint
+/// The hint of the items that both sides have.
+pub fn of_intersection(a: Hint, b: Hint) -> Hint
     ensures { result ≡ intersection_hint a b }
 {
     (0, lesser_of(a.1, b.1))

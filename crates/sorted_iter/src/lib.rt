@@ -14,10 +14,13 @@ mod std_marks;
 mod symmetric_difference;
 mod union;
 
-// Their fields are read by the contracts of the streams and by the proofs of crates above.
+// Their fields are read by the contracts of the streams and by the proofs of crates above. The key joins of `sorted_pairs` are built
+// of these, of `Wants` and of the hints.
 #[doc(hidden)]
 pub use crate::ahead::{Ahead, Head};
 pub use crate::difference::Difference;
+#[doc(hidden)]
+pub use crate::hints::{Hint, of_intersection, of_union};
 pub use crate::intersection::Intersection;
 pub use crate::marks::{
     AssumeSortedByItem, AssumeSortedByItemExt, OneOrLess, SortedByItem, SortedIterator,

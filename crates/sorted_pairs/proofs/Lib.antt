@@ -1,0 +1,7 @@
+pub mod MatchSteps
+pub mod JoinLemmas
+pub mod KeyRuns
+pub mod JoinHintLemmas
+pub mod JoinCopyLemmas
+pub mod Literals
+pub mod RefJoins

@@ -1,0 +1,8 @@
+use Rattle.sorted_pairs.specs.JoinStreams.{left_join_sides}
+use Rattle.sorted_pairs.proofs.JoinCopyLemmas.{left_join-copy}
+use Rattle.sorted_pairs.proofs.left_join.LeftJoin.try_clone.Goals as goal
+
+pub returns : goal.returns
+returns g c =
+    left_join-copy left_join_sides g.K.Ord.cmp g.K.PartialEq.eq g.I.Iterator.can_next g.I.Iterator.remaining g.I.Iterator.next_gives g.J.Iterator.can_next g.J.Iterator.remaining g.J.Iterator.next_gives g.met.K.Ord.total g.met.K.PartialOrd.laws
+    g.met.K.Ord.matches_partial_cmp g.met.K.Eq.laws.refl g.K.Clone.is_clone g.V.Clone.is_clone g.W.Clone.is_clone c.requires.left c.requires.right c.requires.keys _ _ (c.in_ok-left.ensures, c.in_ok-right.ensures)

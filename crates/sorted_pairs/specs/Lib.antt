@@ -1,0 +1,15 @@
+pub mod Matches
+pub mod MatchLaws
+pub mod JoinStreams
+pub mod Joined
+pub mod JoinLaws
+pub mod KeyStreams
+pub mod KeyLaws
+pub mod Calls
+pub mod ValueStreams
+pub mod ValueLaws
+pub mod AssumedStreams
+pub mod MarkLaws
+pub mod JoinHints
+pub mod JoinCopies
+pub mod Sources

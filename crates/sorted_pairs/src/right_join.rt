@@ -1,0 +1,121 @@
+//! The stream of RightJoin.
+ghost use Rattle.std.specs.Prelude.{IfOk, IfSome};
+ghost use Rattle.std.specs.Iterator.{UpTo};
+ghost use Rattle.std.specs.Iterator.SizeHint.{IsWithinCount};
+ghost use Rattle.ordered_lists.specs.Joins.{right_join};
+ghost use Rattle.sorted_iter.specs.Copies.{ClonesGoAlike, ClonesAreEqual};
+ghost use Rattle.sorted_iter.specs.Lookahead.{ahead_left};
+ghost use Rattle.sorted_iter.specs.TwoSides.{sides_can};
+ghost use Rattle.sorted_pairs.specs.JoinCopies.{IsRightCopy, IsJoinCopy};
+ghost use Rattle.sorted_pairs.specs.JoinHints.{IsJoinHint, right_hint};
+ghost use Rattle.sorted_pairs.specs.JoinLaws.{right_join-in_order, joined-goes_on};
+ghost use Rattle.sorted_pairs.specs.JoinStreams.{right_join_sides, right_join_steps, keys_ascend};
+ghost use Rattle.sorted_pairs.specs.Matches.{right_join_walk};
+
+use crate::marks::SortedByKey;
+use crate::matching::{EitherOrBoth, next_match};
+use element_core::NoMemory;
+use sorted_iter::{Sides, Wants};
+
+/// Each pair of the right stream, with the value of the left one at its key, if any; of two equal keys the right one.
+///
+/// It is made by [`right_join`](crate::SortedPairIterator::right_join), lazily: `next` asks each stream at most once for each pair
+/// that it passes over. Making and stepping it takes no memory.
+#[derive(Drop)]
+#[must_use = "a stream is lazy and does nothing until it is asked"]
+pub struct RightJoin<I: Iterator, J: Iterator>
+where
+    I::Item: Drop,
+    J::Item: Drop,
+{
+    pub(crate) sides: Sides<I, J>,
+}
+
+impl<
+    K: Ord + Drop,
+    V: Drop,
+    W: Drop,
+    I: Iterator<Item = (K, V)>,
+    J: Iterator<Item = (K, W)>,
+> Iterator for RightJoin<I, J> {
+    type Item = (K, (Option<V>, W));
+
+    ghost can_next = { λ s. sides_can I.can_next I.remaining J.can_next J.remaining
+        (right_join_sides s) };
+
+    ghost next_gives = { right_join_steps K.cmp I.next_gives J.next_gives };
+
+    ghost remaining = { λ s. ahead_left J.remaining (right_join_sides s).right };
+
+    #[inline]
+    fn next(&mut self) -> Option<(K, (Option<V>, W))> {
+        let wants = Wants {
+            left: false,
+            both: true,
+            right: true,
+        };
+        match next_match(&mut self.sides, wants)? {
+            EitherOrBoth::Left(_) => unreachable!(),
+            EitherOrBoth::Both(left, right) => Some((right.0, (Some(left.1), right.1))),
+            EitherOrBoth::Right((key, w)) => Some((key, (None, w))),
+        }
+    }
+
+    fn size_hint(&self) -> (usize, Option<usize>)
+        ensures lower { IsWithinCount result.0 (ahead_left J.remaining (right_join_sides self.now).right) }
+        ensures upper { IfSome result.1 (UpTo (ahead_left J.remaining (right_join_sides self.now).right)) }
+        ensures table { IsJoinHint right_join_sides K.cmp (right_join K.cmp) right_hint I.remaining I.next_gives
+            J.remaining J.next_gives self.now result }
+    {
+        self.sides.right.size_hint()
+    }
+}
+
+impl<
+    K: Ord + Drop,
+    V: Drop,
+    W: Drop,
+    I: Iterator<Item = (K, V)> + SortedByKey<K, V>,
+    J: Iterator<Item = (K, W)> + SortedByKey<K, W>,
+> SortedByKey<K, (Option<V>, W)> for RightJoin<I, J> {
+    ghost in_order = { λ s. keys_ascend K.cmp I.next_gives J.next_gives (right_join_sides s) };
+
+    fn mark(&self) {}
+
+    ghost sorted = { λ s h. right_join-in_order K.total I.next_gives J.next_gives right_join_sides s h };
+
+    ghost goes_on = { λ s t r h e. joined-goes_on K.cmp (right_join_walk K.cmp) I.next_gives J.next_gives
+        right_join_sides s t r h e };
+}
+
+impl<
+    K: Ord + Drop,
+    V: Drop,
+    W: Drop,
+    I: Iterator<Item = (K, V)>,
+    J: Iterator<Item = (K, W)>,
+> RightJoin<I, J> {
+    /// A second stream that goes on alike: its keys are equal to those that are to come from this one, and its values are the
+    /// same, or clones where they were read ahead. O(1), beside the clones of both streams and of the pairs that were read
+    /// ahead. It is refused where one of these clones is.
+    pub fn try_clone(&self) -> Result<Self, NoMemory>
+    where
+        I: Clone,
+        J: Clone,
+        K: Clone,
+        V: Clone,
+        W: Clone,
+        requires left { ClonesGoAlike I.is_clone I.can_next I.remaining I.next_gives }
+        requires right { ClonesGoAlike J.is_clone J.can_next J.remaining J.next_gives }
+        requires keys { ClonesAreEqual K.is_clone K.eq }
+        ensures { IfOk result (IsJoinCopy right_join_sides K.cmp (right_join K.cmp)
+            (IsRightCopy K.eq V.is_clone W.is_clone) I.can_next I.remaining I.next_gives J.can_next
+            J.remaining J.next_gives (right_join_steps K.cmp I.next_gives J.next_gives) self.now) }
+    {
+        let left = self.sides.left.try_clone()?;
+        let right = self.sides.right.try_clone()?;
+        Ok(RightJoin {
+            sides: Sides { left, right },
+        })
+    }
+}
