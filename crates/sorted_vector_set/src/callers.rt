@@ -1,5 +1,5 @@
 //! A caller that makes a stream of `sorted_iter` from a set, by what the set says of its items.
-#![tactic(auto, using(crate::specs::Streams::streams))]
+#![tactic(auto, using(sorted_iter::specs::Sources::sources))]
 
 ghost use Rattle.std.specs.Slice.Iter.{iter_steps};
 ghost use Rattle.sorted_iter.specs.Orders.{InOrder};
