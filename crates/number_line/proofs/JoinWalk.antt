@@ -1,6 +1,6 @@
 -- A join whose function is called at each piece as it is cut, from the least number on.
 use Rattle.std.proofs.Common.{◌≡◌, List, [], ◌∷◌, ◌++◌, refl, ap, sym, ◌∙◌}
-use Rattle.std.specs.Prelude.{ℤ, pos, ◌+ℤ◌, Bool, true, false, if◌then◌else◌}
+use Rattle.std.specs.Prelude.{ℤ, pos, ◌+ℤ◌, Bool, true, false}
 use Rattle.std.specs.List.{fold}
 use Rattle.number_line.specs.Merged.{put_behind, merged}
 use Rattle.number_line.specs.Pieces.{Calls, with_answers, IsJoin}

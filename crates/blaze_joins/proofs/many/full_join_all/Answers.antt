@@ -3,7 +3,6 @@ use Rattle.std.specs.Prelude.{pos, ◌+ℤ◌, ◌-ℤ◌, unsigned_abs}
 use Rattle.std.proofs.lemmas.Int.{ints}
 use Rattle.number_line.specs.Pieces.{holders_of_all_at, same_holders_of_all, in_any}
 use Rattle.number_line.proofs.JoinWalk.{joined_first, joined_past, joined_call, joined_all}
-use Rattle.range_map.specs.Valued.{pairs_in_numbers}
 use Rattle.range_map.proofs.GrowthLemmas.{end_below-raise}
 use Rattle.blaze_joins.specs.Joins.{CalledAtAny}
 use Rattle.blaze_joins.specs.SideView.{holders_in}
