@@ -125,8 +125,8 @@ fn end_at_greatest<T: Element>(ranges: &mut Vec<Range<T>>, begun: Option<T>) -> 
     Ok(())
 }
 
-/// The one set whose cuts are these values, which ascend, as `from_cuts` makes it of a sorted set. Takes O(n) time for n
-/// cuts, and memory.
+/// The one set whose cuts are these values, which ascend, as `from_cuts` makes it of a sorted set.
+/// Takes O(n) time for n cuts, and memory.
 pub fn from_cut_slice<T: Element>(alloc: Global, list: &[T]) -> Result<RangeSet<T>, NoMemory>
     requires { IsAscending T.numbers.least T.numbers.greatest (numbers_of T.numbers list.now) }
     ensures { IfOk result (λ set.

@@ -86,9 +86,10 @@ fn set_of_values<T: Element>(alloc: Global, values: &[T]) -> Result<SortedVector
 
 /// The values that are a cut of at least one of the ranges taken alone, ascending, each once.
 ///
-/// A range taken alone has its start as a cut, and the value behind its end where the type has one. So 1..=5, 4..=8 and
-/// 6..=MAX have the cuts 1, 4, 6 and 9, and no range has none. It is the union of the streams of these cuts, in
-/// O(n log n) for n ranges. It takes memory, and is refused where there is none.
+/// A range taken alone has its start as a cut, and the value behind its end where the type has one.
+/// So 1..=5, 4..=8 and 6..=MAX have the cuts 1, 4, 6 and 9, and no range has none. It is the union
+/// of the streams of these cuts, in O(n log n) for n ranges. It takes memory, and is refused where
+/// there is none.
 pub fn all_cuts<T: Element>(
     alloc: Global,
     ranges: &[Range<T>],

@@ -18,7 +18,8 @@ after_some earlier p values (Some step) = after_step earlier p values step
 
 -- after lines of these names the step does, at the place of each visited number, what the word does at the number
 abbrev pub IsWordStep : List ℤ → List (List ℕ) → Option Kind → Option Step → Type 0
-IsWordStep visited names word step = (earlier : List (List ℕ × Bool)) (p : ℕ) (values : List Bool) → map (λ l. l.0) earlier ≡ names → p < length visited
+IsWordStep visited names word step = (earlier : List (List ℕ × Bool)) (p : ℕ) (values : List Bool)
+    → map (λ l. l.0) earlier ≡ names → p < length visited
     → after_some (map (λ l. l.1) earlier) p values step ≡ after_word earlier (get_or visited p (pos 0)) values word
 
 -- after lines of these names the steps of a line give, at the place of each visited number, what its words give at the number

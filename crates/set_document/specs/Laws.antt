@@ -51,7 +51,8 @@ TruthChangesAtCuts = (text : List ℕ) (x : ℤ) → x ≤ℤ greatest → has i
 -- each cut of a line's runs is the least number, or a cut of a number or range of the text
 abbrev pub RunCutsAreLiteral : Type 0
 RunCutsAreLiteral = (text : List ℕ)
-    → AllByRecursion (λ line. (x : ℤ) → has int_cmp (cuts greatest line.1) x ≡ true → (x ≡ least) ⊎ (has int_cmp (literal_cuts text) x ≡ true)) (listed text)
+    → AllByRecursion (λ line. (x : ℤ) → has int_cmp (cuts greatest line.1) x ≡ true
+    → (x ≡ least) ⊎ (has int_cmp (literal_cuts text) x ≡ true)) (listed text)
 
 -- no line has more runs than the text has numbers and ranges, and one
 abbrev pub HasFewRanges : List ℕ → List (List ℕ × List (ℤ × ℤ)) → Type 0

@@ -140,10 +140,10 @@ impl<'t> Answer<'t> {
 ///
 /// Lines are judged in order, in a line its form first, then its words from the left, and last the
 /// number of sets that they leave. What the lines give changes only at the cuts of the numbers and
-/// ranges in the text, each taken alone, so one pass over the least number and these cuts tells all:
-/// at 64 of them at a time the words of all lines are folded over truth values, a name word reads
-/// the values of its latest earlier line, and what changes is noted. With n number and range words
-/// a list has at most n + 1 ranges, and the table at most 2n + 1 rows.
+/// ranges in the text, each taken alone, so one pass over the least number and these cuts tells
+/// all: at 64 of them at a time the words of all lines are folded over truth values, a name word
+/// reads the values of its latest earlier line, and what changes is noted. With n number and range
+/// words a list has at most n + 1 ranges, and the table at most 2n + 1 rows.
 ///
 /// O(n log n) for the cuts, a step for each word and 64 cuts, and the size of the answer.
 pub fn evaluate<'t>(alloc: Global, text: &'t [u8]) -> Result<Answer<'t>, AlgebraError>

@@ -161,7 +161,8 @@ fn row_len(names: &SortedVectorMap<Name<'_>, usize>, row: &TableRow) -> usize {
     total
 }
 
-// Room for the bytes of lines and rows. It spares that the bytes are moved as they grow, and no more.
+// Room for the bytes of lines and rows. It spares that the bytes are moved as they grow, and no
+// more.
 pub(crate) fn room_for(
     lines: &[Line<'_>],
     names: &SortedVectorMap<Name<'_>, usize>,
