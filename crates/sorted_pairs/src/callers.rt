@@ -1,15 +1,37 @@
 //! Callers as a user would write them, each proved to learn the list that it gets.
 #![tactic(auto, using(crate::specs::Sources::sources, crate::proofs::Literals::literals))]
 
-ghost use Rattle.std.specs.Prelude.{◌≡◌, IfOk};
+ghost use Rattle.std.specs.Prelude.{◌≡◌, IfOk, IfSome, Some};
 ghost use Rattle.std.specs.List.Sorted.{IsStrictlySortedBy};
 ghost use Rattle.std.specs.Ordering.{nat_cmp};
 ghost use Rattle.ordered_lists.specs.Joins.{keys, join, left_join, right_join, outer_join};
 ghost use Rattle.ordered_lists.specs.Lists.{by_key};
+ghost use Rattle.sorted_pairs.specs.JoinStreams.{join_steps};
+ghost use Rattle.sorted_pairs.specs.Joined.{JoinsRuns};
 
-use crate::{AssumeSortedByKeyExt, SortedPairIterator};
+use crate::{AssumeSortedByKeyExt, Join, SortedPairIterator};
 use element_core::NoMemory;
 use std::alloc::{AllocError, Global};
+
+/// The first pair, and then the join of the rest with another stream.
+pub(crate) fn join_after_first<
+    K: Ord + Drop,
+    V: Drop,
+    W: Drop,
+    I: Iterator<Item = (K, V)> + SortedPairIterator<K, V>,
+    J: Iterator<Item = (K, W)> + SortedPairIterator<K, W>,
+>(mut left: I, right: J) -> Option<((K, V), Join<I, J>)>
+where
+    requires can { I.can_next left }
+    requires left_ascends { I.in_order left }
+    requires right_ascends { J.in_order right }
+    ensures { IfSome result (λ p. (t : I) × I.next_gives left (Some p.0) t
+        × JoinsRuns K.cmp (join K.cmp) (join_steps K.cmp I.next_gives J.next_gives) p.1
+        I.next_gives t J.next_gives right) }
+{
+    let first = left.next()?;
+    Some((first, left.join(right)))
+}
 
 /// The pairs of two slices that have one key.
 pub(crate) fn join_of<K: Ord + Copy, V: Copy, W: Copy>(

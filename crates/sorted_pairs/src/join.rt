@@ -67,8 +67,8 @@ impl<
             (ahead_left J.remaining (join_sides self.now).right)) }
         ensures upper { IfSome result.1 (UpTo (count_min (ahead_left I.remaining (join_sides self.now).left)
             (ahead_left J.remaining (join_sides self.now).right))) }
-        ensures table { IsJoinHint join_sides K.cmp (join K.cmp) intersection_hint I.remaining I.next_gives
-            J.remaining J.next_gives self.now result }
+        ensures table { IsJoinHint join_sides K.cmp (join K.cmp) intersection_hint
+            I.remaining I.next_gives J.remaining J.next_gives self.now result }
     {
         of_intersection(self.sides.left.size_hint(), self.sides.right.size_hint())
     }

@@ -64,8 +64,8 @@ impl<
     fn size_hint(&self) -> (usize, Option<usize>)
         ensures lower { IsWithinCount result.0 (ahead_left I.remaining (left_join_sides self.now).left) }
         ensures upper { IfSome result.1 (UpTo (ahead_left I.remaining (left_join_sides self.now).left)) }
-        ensures table { IsJoinHint left_join_sides K.cmp (left_join K.cmp) left_hint I.remaining I.next_gives
-            J.remaining J.next_gives self.now result }
+        ensures table { IsJoinHint left_join_sides K.cmp (left_join K.cmp) left_hint
+            I.remaining I.next_gives J.remaining J.next_gives self.now result }
     {
         self.sides.left.size_hint()
     }

@@ -68,8 +68,8 @@ impl<
             (ahead_left J.remaining (outer_join_sides self.now).right)) }
         ensures upper { IfSome result.1 (UpTo (count_add (ahead_left I.remaining (outer_join_sides self.now).left)
             (ahead_left J.remaining (outer_join_sides self.now).right))) }
-        ensures table { IsJoinHint outer_join_sides K.cmp (outer_join K.cmp) union_hint I.remaining I.next_gives
-            J.remaining J.next_gives self.now result }
+        ensures table { IsJoinHint outer_join_sides K.cmp (outer_join K.cmp) union_hint
+            I.remaining I.next_gives J.remaining J.next_gives self.now result }
     {
         of_union(self.sides.left.size_hint(), self.sides.right.size_hint())
     }

@@ -64,8 +64,8 @@ impl<
     fn size_hint(&self) -> (usize, Option<usize>)
         ensures lower { IsWithinCount result.0 (ahead_left J.remaining (right_join_sides self.now).right) }
         ensures upper { IfSome result.1 (UpTo (ahead_left J.remaining (right_join_sides self.now).right)) }
-        ensures table { IsJoinHint right_join_sides K.cmp (right_join K.cmp) right_hint I.remaining I.next_gives
-            J.remaining J.next_gives self.now result }
+        ensures table { IsJoinHint right_join_sides K.cmp (right_join K.cmp) right_hint
+            I.remaining I.next_gives J.remaining J.next_gives self.now result }
     {
         self.sides.right.size_hint()
     }

@@ -3,8 +3,8 @@
 
 use crate::callers::{
     copies_of_join, copies_of_keys, copies_of_left_join, copies_of_outer_join,
-    copies_of_right_join, copy_of_assumed, join_of, keys_of, left_join_of, outer_join_of,
-    right_join_of,
+    copies_of_right_join, copy_of_assumed, join_after_first, join_of, keys_of, left_join_of,
+    outer_join_of, right_join_of,
 };
 use crate::{AssumeSortedByKeyExt, SortedPairIterator};
 use sorted_iter::SortedIterator;
@@ -344,5 +344,41 @@ fn a_join_of_a_join(rt: HostRuntime) -> Result<(), Fail> {
         ]
         .as_slice()
     );
+    Ok(())
+}
+
+#[test]
+fn streams_with_a_function_as_sides(rt: HostRuntime) -> Result<(), Fail> {
+    let left = (0..5u32).pairs().map_values(|_| 1u8);
+    let mut passed = false;
+    let right = (3..9u32).pairs().filter_map_values(move |_| {
+        if passed {
+            return Some('x');
+        }
+        passed = true;
+        None
+    });
+    assert_eq!(rt; left.join(right).next(), Some((4, (1, 'x'))));
+    Ok(())
+}
+
+#[test]
+fn the_rest_after_a_pair(rt: HostRuntime) -> Result<(), Fail> {
+    let alloc = rt.alloc();
+    let Some((first, rest)) = join_after_first((2..5u32).pairs(), (0..4u32).pairs()) else {
+        return Err(Fail::new("a pair comes"));
+    };
+    assert_eq!(rt; first, (2, ()));
+    let rest: Vec<(u32, ((), ()))> = rest.collect(alloc)?;
+    assert_eq!(rt; rest.as_slice(), [(3, ((), ()))].as_slice());
+    Ok(())
+}
+
+#[test]
+fn right_and_outer_joins_as_sides(rt: HostRuntime) -> Result<(), Fail> {
+    let right = (0..2u32).pairs().right_join((1..3u32).pairs());
+    let outer = (2..3u32).pairs().outer_join((5..6u32).pairs());
+    let keys: Vec<u32> = right.outer_join(outer).keys().collect(rt.alloc())?;
+    assert_eq!(rt; keys.as_slice(), [1, 2, 5].as_slice());
     Ok(())
 }
