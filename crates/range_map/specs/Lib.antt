@@ -8,3 +8,4 @@ pub mod MapError
 pub mod Sweep
 pub mod Bounds
 pub mod Making
+pub mod Elements

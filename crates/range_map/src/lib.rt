@@ -6,6 +6,9 @@ mod active;
 mod bounds;
 #[cfg(test)]
 mod callers;
+mod counting;
+mod elements;
+mod except;
 mod from_iter;
 #[cfg(test)]
 mod from_iter_tests;
@@ -14,6 +17,7 @@ mod iter;
 pub mod laws;
 mod map;
 mod map_compared;
+mod map_counting;
 mod map_error;
 mod map_from_iter;
 #[cfg(test)]
@@ -27,6 +31,7 @@ mod tests;
 
 #[doc(hidden)]
 pub use growing::MapBuilder;
+pub use elements::EltIter;
 pub use iter::RangeIter;
 pub use map::RangeMap;
 pub use map_error::{OverlapError, TryFromIterError};
