@@ -9,3 +9,4 @@ pub mod Sweep
 pub mod Bounds
 pub mod Making
 pub mod Elements
+pub mod ErrorText

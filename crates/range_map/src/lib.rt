@@ -14,11 +14,14 @@ mod from_iter;
 mod from_iter_tests;
 mod growing;
 mod iter;
+mod iterated;
 pub mod laws;
 mod map;
+mod map_cloned;
 mod map_compared;
 mod map_counting;
 mod map_error;
+mod map_error_shown;
 mod map_from_iter;
 #[cfg(test)]
 mod map_tests;
