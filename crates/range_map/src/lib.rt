@@ -31,6 +31,8 @@ mod set;
 pub mod sweep;
 #[cfg(test)]
 mod tests;
+#[cfg(test)]
+mod whole_tests;
 
 #[doc(hidden)]
 pub use growing::MapBuilder;
