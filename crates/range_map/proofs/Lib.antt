@@ -10,3 +10,4 @@ pub mod GrowthLemmas
 pub mod SweepLemmas
 pub mod BoundLemmas
 pub mod OddLemmas
+pub mod ElementLemmas

@@ -8,3 +8,5 @@ pub mod MapError
 pub mod Sweep
 pub mod Bounds
 pub mod Making
+pub mod Elements
+pub mod ErrorText

@@ -4,10 +4,17 @@
 
 #[cfg(test)]
 mod callers;
+mod counting;
+mod elements;
+mod except;
 #[cfg(test)]
 mod from_iter_tests;
+mod iterated;
 pub mod laws;
 mod map;
+mod map_cloned;
+mod map_counting;
+mod map_error_shown;
 #[cfg(test)]
 mod map_tests;
 mod range;
@@ -15,7 +22,10 @@ mod set;
 pub mod sweep;
 #[cfg(test)]
 mod tests;
+#[cfg(test)]
+mod whole_tests;
 
+pub use elements::EltIter;
 #[doc(hidden)]
 pub use map::MapBuilder;
 pub use map::{OverlapError, RangeMap, TryFromIterError};

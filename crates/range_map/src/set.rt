@@ -8,6 +8,7 @@ mod from_iter;
 mod iter;
 mod merging;
 
+pub(crate) use from_iter::join_all;
 pub use iter::RangeIter;
 
 use crate::range::Range;

@@ -7,8 +7,11 @@ mod callers;
 mod grouped;
 mod grouping;
 mod multimap;
+mod whole;
 #[cfg(test)]
 mod tests;
+#[cfg(test)]
+mod whole_tests;
 
 pub use grouped::Group;
 pub use multimap::RangeMultiMap;

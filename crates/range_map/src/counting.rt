@@ -1,0 +1,44 @@
+//! How many values a set has, and whether it has all.
+ghost use Rattle.std.specs.Prelude.{◌≡◌, ℤ, ◌≤ℤ◌, min, length, IsTrue, true, ◌↔◌};
+ghost use Rattle.number_line.specs.Members.{size, members};
+ghost use Rattle.number_line.specs.Ranges.{holds};
+ghost use Rattle.range_map.specs.Range.{in_numbers};
+
+use crate::range::Range;
+use crate::set::RangeSet;
+use element_core::{Element, is_below};
+
+/// The number of values in the range, or `usize::MAX` where there are more.
+pub(crate) fn size_of<T: Element>(range: &Range<T>) -> usize
+    ensures { result ≡ min (size (in_numbers T.numbers range.now)) usize.MAX }
+{
+    range.start().steps_to(range.end()).saturating_add(1)
+}
+
+impl<T: Element> RangeSet<T> {
+    /// Whether every value of the type is a member. Takes O(1) time and no memory.
+    pub fn is_full(&self) -> bool
+        ensures { IsTrue result ↔ ((x : ℤ) → T.numbers.least ≤ℤ x → x ≤ℤ T.numbers.greatest → holds self.now x ≡ true) }
+    {
+        let least = T::min_value();
+        // This tells that there is a value at all.
+        least.in_type();
+        match self.ranges.split_first() {
+            Some((range, _)) => {
+                !is_below(least, range.start()) && !is_below(range.end(), T::max_value())
+            }
+            None => false,
+        }
+    }
+
+    /// The number of members, or `usize::MAX` where there are more. Takes O(n) time for n ranges, and no memory.
+    pub fn num_elements(&self) -> usize
+        ensures { result ≡ min (length (members self.now)) usize.MAX }
+    {
+        let mut count: usize = 0;
+        for range in &self.ranges {
+            count = count.saturating_add(size_of(range));
+        }
+        count
+    }
+}
