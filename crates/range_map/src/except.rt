@@ -5,9 +5,8 @@ ghost use Rattle.number_line.specs.Except.{never_fall, single_ranges, IsExcept};
 ghost use Rattle.range_map.specs.Set.{all_in_numbers};
 ghost use Rattle.range_map.specs.Sweep.{numbers_of};
 
-use crate::set::join_all;
 use crate::range::Range;
-use crate::set::RangeSet;
+use crate::set::{RangeSet, join_all};
 use element_core::{Element, NoMemory, is_below};
 use std::alloc::Global;
 
@@ -56,10 +55,7 @@ impl<T: Element> RangeSet<T> {
     /// The set of all values but those that `it` gives, or `None` where some of these is less than the one before it.
     /// A value may come again and again; where none comes, the set is full. Takes O(n) calls of `next` and
     /// O(n log n) time for n values.
-    pub fn except<I: Iterator<Item = T>>(
-        alloc: Global,
-        it: I,
-    ) -> Result<Option<Self>, NoMemory>
+    pub fn except<I: Iterator<Item = T>>(alloc: Global, it: I) -> Result<Option<Self>, NoMemory>
         requires { I.can_next it × IsFinite (I.remaining it) }
         ensures { IfOk result (λ set. (values : List T) × Drains I.next_gives it values
             × IsExcept T.numbers.least T.numbers.greatest (numbers_of T.numbers values) set) }

@@ -5,10 +5,9 @@ ghost use Rattle.number_line.specs.Ranges.{IsCanonical};
 ghost use Rattle.number_line.specs.Valued.{IsCanonicalMap};
 ghost use Rattle.range_map.specs.Valued.{pairs_in_numbers};
 
-use crate::set::RangeIter;
 use crate::map::RangeMap;
 use crate::range::Range;
-use crate::set::RangeSet;
+use crate::set::{RangeIter, RangeSet};
 use element_core::Element;
 use std::slice::Iter;
 

@@ -10,12 +10,11 @@ mod error;
 mod from_iter;
 mod growing;
 
+use crate::range::Range;
+use element_core::{Element, NoMemory};
 pub use error::{OverlapError, TryFromIterError};
 #[doc(hidden)]
 pub use growing::MapBuilder;
-
-use crate::range::Range;
-use element_core::{Element, NoMemory};
 use std::alloc::Global;
 use std::marker::Model;
 use std::slice::Iter;

@@ -8,12 +8,11 @@ mod from_iter;
 mod iter;
 mod merging;
 
+use crate::range::Range;
+use element_core::{Element, NoMemory, is_below};
 pub(crate) use from_iter::join_all;
 pub use iter::RangeIter;
-
-use crate::range::Range;
 use merging::take_first;
-use element_core::{Element, NoMemory, is_below};
 use std::alloc::Global;
 use std::hash::{Hash, Hasher};
 use std::marker::Model;

@@ -28,8 +28,11 @@ returns-then-is_below g c =
     let items = c.deref-pair-items.result.now in
     let next : drop i items ≡ c.pair-item.result ∷ drop (i + 1) items = grind (arith, common_steps) in
     let self_is = ap (pairs_in_numbers numbers) c.deref-pair-items.ensures.value ∙ c.self.view_is in
-    rw (← self_is) ((λ no. absurd (cc)), λ total. absurd (gap_is_none g.V.PartialEq.eq _ _ _ _ _ _ _
-    (ap (pairs_in_numbers numbers) next) c.loop-pair.invariant (rw (← c.start.ensures.value) c.if-is_below.ensures) total))
+    rw (← self_is) (
+      (λ no. absurd (cc)),
+      λ total. absurd (gap_is_none g.V.PartialEq.eq _ _ _ _ _ _ _
+          (ap (pairs_in_numbers numbers) next) c.loop-pair.invariant (rw (← c.start.ensures.value) c.if-is_below.ensures) total),
+    )
 
 pub returns-in-None : goal.returns-in-None
 returns-in-None g c =
@@ -38,13 +41,19 @@ returns-in-None g c =
     let items = c.deref-pair-items.result.now in
     let next : drop i items ≡ c.pair-item.result ∷ drop (i + 1) items = grind (arith, common_steps) in
     let self_is = ap (pairs_in_numbers numbers) c.deref-pair-items.ensures.value ∙ c.self.view_is in
-    rw (← self_is) ((λ yes. total_end g.V.PartialEq.eq _ _ _ _ _ _ _ (ap (pairs_in_numbers numbers) next) c.loop-pair.invariant
-    (rw (← c.start.ensures.value) c.if-is_below.ensures) (rw (← c.end.ensures.value) (c.in-None.ensures.at_end.0 refl))), λ total. refl)
+    rw (← self_is) (
+      (λ yes. total_end g.V.PartialEq.eq _ _ _ _ _ _ _ (ap (pairs_in_numbers numbers) next) c.loop-pair.invariant
+          (rw (← c.start.ensures.value) c.if-is_below.ensures) (rw (← c.end.ensures.value) (c.in-None.ensures.at_end.0 refl))),
+      λ total. refl,
+    )
 
 pub returns : goal.returns
 returns g c =
     let numbers = g.T.Element.numbers in
     let none : drop c.loop-pair.pair-index c.deref-pair-items.result.now ≡ [] = grind (arith, common_steps) in
     let self_is = ap (pairs_in_numbers numbers) c.deref-pair-items.ensures.value ∙ c.self.view_is in
-    rw (← self_is) ((λ no. absurd (cc)), λ total. absurd (rest_is_none g.V.PartialEq.eq _ _ _ _ _
-    (ap (pairs_in_numbers numbers) none) c.loop-pair.invariant total))
+    rw (← self_is) (
+      (λ no. absurd (cc)),
+      λ total. absurd (rest_is_none g.V.PartialEq.eq _ _ _ _ _
+          (ap (pairs_in_numbers numbers) none) c.loop-pair.invariant total),
+    )
