@@ -18,7 +18,8 @@ pub(crate) fn size_of<T: Element>(range: &Range<T>) -> usize
 impl<T: Element> RangeSet<T> {
     /// Whether every value of the type is a member. Takes O(1) time and no memory.
     pub fn is_full(&self) -> bool
-        ensures { IsTrue result ↔ ((x : ℤ) → T.numbers.least ≤ℤ x → x ≤ℤ T.numbers.greatest → holds self.now x ≡ true) }
+        ensures { IsTrue result ↔ ((x : ℤ) → T.numbers.least ≤ℤ x → x ≤ℤ T.numbers.greatest
+            → holds self.now x ≡ true) }
     {
         let least = T::min_value();
         // This tells that there is a value at all.

@@ -22,7 +22,8 @@ pub struct EltIter<'a, T: Element> {
 
 /// The range without its first value, or `None` where it has no other.
 fn without_first<T: Element>(range: &Range<T>) -> Option<Range<T>>
-    ensures more { IfSome result (λ _. T.numbers.number range.now.0 <ℤ T.numbers.number range.now.1) }
+    ensures more { IfSome result
+        (λ _. T.numbers.number range.now.0 <ℤ T.numbers.number range.now.1) }
     ensures others { IfSome result (λ left. in_numbers T.numbers left
         ≡ (T.numbers.number range.now.0 +ℤ pos 1, T.numbers.number range.now.1)) }
     ensures alone { IfNone result (T.numbers.number range.now.0 ≡ T.numbers.number range.now.1) }
@@ -70,8 +71,10 @@ impl<'a, T: Element> Iterator for EltIter<'a, T> {
     }
 
     fn size_hint(&self) -> (usize, Option<usize>)
-        ensures lower { IsWithinCount result.0 (at_most (length (members_left T.numbers self.now))) }
-        ensures upper { IfSome result.1 (UpTo (at_most (length (members_left T.numbers self.now)))) }
+        ensures lower { IsWithinCount result.0
+            (at_most (length (members_left T.numbers self.now))) }
+        ensures upper { IfSome result.1
+            (UpTo (at_most (length (members_left T.numbers self.now)))) }
         ensures open { result.1 ≡ None }
     {
         // Each range that isn't begun has a member at least.

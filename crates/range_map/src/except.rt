@@ -29,7 +29,8 @@ fn are_in_order<T: Element>(values: &[T]) -> bool
 
 /// The values as ranges of one value each.
 fn singles<T: Element>(alloc: Global, values: &[T]) -> Result<Vec<Range<T>>, NoMemory>
-    ensures { IfOk result (λ ranges. all_in_numbers T.numbers ranges.items ≡ single_ranges (numbers_of T.numbers values.now)) }
+    ensures { IfOk result (λ ranges. all_in_numbers T.numbers ranges.items
+        ≡ single_ranges (numbers_of T.numbers values.now)) }
 {
     let mut ranges = Vec::with_capacity(alloc, values.len())?;
     for value in values {
@@ -40,7 +41,8 @@ fn singles<T: Element>(alloc: Global, values: &[T]) -> Result<Vec<Range<T>>, NoM
 
 /// The set of all values but these, or `None` where some value is less than the one before it.
 fn all_but<T: Element>(alloc: Global, values: &[T]) -> Result<Option<RangeSet<T>>, NoMemory>
-    ensures { IfOk result (IsExcept T.numbers.least T.numbers.greatest (numbers_of T.numbers values.now)) }
+    ensures { IfOk result (IsExcept T.numbers.least T.numbers.greatest
+        (numbers_of T.numbers values.now)) }
 {
     if !are_in_order(values) {
         return Ok(None);

@@ -23,6 +23,8 @@ pub mod sweep;
 #[cfg(test)]
 mod tests;
 #[cfg(test)]
+mod whole_callers;
+#[cfg(test)]
 mod whole_tests;
 
 pub use elements::EltIter;

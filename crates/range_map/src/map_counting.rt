@@ -67,7 +67,8 @@ impl<T: Element, V: Eq> RangeMap<T, V> {
     /// The set of the keys. Takes O(n) time for n ranges.
     pub fn to_range_set(&self, alloc: Global) -> Result<RangeSet<T>, NoMemory>
         ensures canonical { IfOk result (IsCanonical T.numbers.least T.numbers.greatest) }
-        ensures members { IfOk result (λ set. (x : ℤ) → holds set x ≡ is_some (value_at self.now x)) }
+        ensures members { IfOk result (λ set. (x : ℤ)
+            → holds set x ≡ is_some (value_at self.now x)) }
     {
         let ranges = ranges_alone(alloc, self.pairs.as_slice())?;
         let set = join_all(alloc, ranges)?;

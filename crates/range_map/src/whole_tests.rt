@@ -1,5 +1,6 @@
-//! What no contract shows of counts, members and sets of all but some: that the calls succeed where memory suffices, and
-//! that the contracts say what is meant.
+//! What no contract shows of counts, members and sets of all but some: that the calls succeed where memory
+//! suffices, and that the contracts say what is meant.
+use crate::whole_callers::{free_days, lets_in};
 use crate::{Range, RangeMap, RangeSet};
 use element_core::{Element, NoMemory};
 use std::alloc::Global;
@@ -119,5 +120,35 @@ fn keys_and_copies_of_a_map(rt: HostRuntime) -> Result<(), Fail> {
     assert!(rt; keys.num_ranges() == 2 && keys.num_elements() == 10);
     assert!(rt; keys.contains(5) && !keys.contains(6) && keys.contains(8) && !keys.contains(13));
     assert!(rt; map.try_clone(alloc)? == map);
+    Ok(())
+}
+
+/// The bookings of the days 3 to 5 and 6 to 9.
+fn bookings(alloc: Global) -> Result<RangeMap<u16, u32>, NoMemory> {
+    let mut pairs = Vec::new(alloc);
+    pairs.push((Range::new(3, 5), 41))?;
+    pairs.push((Range::new(6, 9), 42))?;
+    match RangeMap::try_from_iter(alloc, pairs) {
+        Ok(table) => Ok(table),
+        Err(_) => Err(NoMemory),
+    }
+}
+
+#[test]
+fn days_that_are_free(rt: HostRuntime) -> Result<(), Fail> {
+    let table = bookings(rt.alloc())?;
+    let free = free_days(rt.alloc(), &table)?;
+    assert!(rt; free.contains(0) && free.contains(2) && !free.contains(3) && !free.contains(9));
+    assert!(rt; free.contains(10) && free.contains(u16::MAX) && free.num_ranges() == 2);
+    Ok(())
+}
+
+#[test]
+fn addresses_that_are_let_in(rt: HostRuntime) -> Result<(), Fail> {
+    let shut = RangeSet::from_range(rt.alloc(), Range::new(10, 20))?;
+    let rows = [(9, true), (10, false), (20, false), (21, true)];
+    for (address, is_in) in rows {
+        assert_eq!(rt; lets_in(&shut, address), is_in);
+    }
     Ok(())
 }
