@@ -64,7 +64,8 @@ impl<T: Element, V: Eq> RangeMap<T, V> {
         count
     }
 
-    /// The set of the keys. Takes O(n) time for n ranges.
+    /// The set of the keys. Takes O(n log n) time for n ranges, since they pass through a sort that
+    /// finds them in order, and memory.
     pub fn to_range_set(&self, alloc: Global) -> Result<RangeSet<T>, NoMemory>
         ensures canonical { IfOk result (IsCanonical T.numbers.least T.numbers.greatest) }
         ensures members { IfOk result (λ set. (x : ℤ)
