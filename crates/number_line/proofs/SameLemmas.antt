@@ -17,12 +17,14 @@ module _ {V : Type 0} (same : V → V → Bool) where
 
   pub same_step : (made new left rest all : List ((ℤ × ℤ) × V)) (r : ℤ × ℤ) (v w : V) → new ≡ made ++ (r, v) ∷ [] → left ≡ (r, w) ∷ rest → same v w ≡ true
       → IsSameSoFar made left all → IsSameSoFar new rest all
-  same_step made new left rest all r v w is_new is_left equal so_far = record { completed = λ more h.
-      let first : int_eq r.0 r.0 ≡ true = (Decides-int_eq r.0 r.0).1 refl in
-      let last : int_eq r.1 r.1 ≡ true = (Decides-int_eq r.1 r.1).1 refl in
-      let grouped : new ++ more ≡ made ++ (r, v) ∷ more = ap (λ xs. xs ++ more) is_new ∙ append_assoc made ((r, v) ∷ []) more in
-      let one : same_list same ((r, v) ∷ more) left ≡ true = rw (is_left, first, last, equal) h in
-      rw grouped (so_far.completed ((r, v) ∷ more) one) }
+  same_step made new left rest all r v w is_new is_left equal so_far = record {
+    completed = λ more h.
+        let first : int_eq r.0 r.0 ≡ true = (Decides-int_eq r.0 r.0).1 refl in
+        let last : int_eq r.1 r.1 ≡ true = (Decides-int_eq r.1 r.1).1 refl in
+        let grouped : new ++ more ≡ made ++ (r, v) ∷ more = ap (λ xs. xs ++ more) is_new ∙ append_assoc made ((r, v) ∷ []) more in
+        let one : same_list same ((r, v) ∷ more) left ≡ true = rw (is_left, first, last, equal) h in
+        rw grouped (so_far.completed ((r, v) ∷ more) one);
+  }
 
   pub same_end : (made left all : List ((ℤ × ℤ) × V)) → left ≡ [] → IsSameSoFar made left all → same_list same made all ≡ true
   same_end made left all none so_far =

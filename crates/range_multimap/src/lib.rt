@@ -7,9 +7,9 @@ mod callers;
 mod grouped;
 mod grouping;
 mod multimap;
-mod whole;
 #[cfg(test)]
 mod tests;
+mod whole;
 #[cfg(test)]
 mod whole_tests;
 

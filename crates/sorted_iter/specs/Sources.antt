@@ -79,7 +79,7 @@ module _ {X : Type 0} where
   pub InOrder-from_shown : (at_refs : Bor X → Bor X → Ordering) (cmp : X → X → Ordering) (it xs : List X) → it ≡ xs → IsStrictlySortedBy cmp xs → IsOrderOfRefs at_refs cmp → InOrder at_refs (YieldsFirstBy deref (λ left. left)) it
   InOrder-from_shown at_refs cmp it xs e h same = by_refs at_refs cmp same (YieldsFirstBy deref (λ left. left)) it
       (in_order-of_rest deref (YieldsFirstBy deref (λ left. left)) (λ left. left) (λ s. length s ≡ 0)
-          (λ s t x k. (k, some_left s t x.now k)) (λ s t k. nothing_left t k.1) cmp it (subst (IsStrictlySortedBy cmp) (sym e) h))
+      (λ s t x k. (k, some_left s t x.now k)) (λ s t k. nothing_left t k.1) cmp it (subst (IsStrictlySortedBy cmp) (sym e) h))
 
   gives_shown : (s t : List X) (x : X) (o : Option (Bor X)) → YieldsFirstBy deref (λ left. left) s o t → Some x ≡ option_copied o → (s ≡ x ∷ t) × (length s ≡ 0 → ⊥)
   gives_shown s t x None k e = absurd cc
