@@ -16,9 +16,11 @@ use std::alloc::Global;
 /// Puts `cut`, which is above all others, behind those kept.
 pub(crate) fn push_cut<T: Element>(kept: &mut SortedVectorSet<T>, cut: T) -> Result<(), NoMemory>
     requires values { AllByRecursion T.numbers.IsValue kept.old.items }
-    requires ascending { IsAscending T.numbers.least T.numbers.greatest (numbers_of T.numbers kept.old.items ++ T.numbers.number cut ∷ []) }
+    requires ascending { IsAscending T.numbers.least T.numbers.greatest
+        (numbers_of T.numbers kept.old.items ++ T.numbers.number cut ∷ []) }
     ensures values { OnOk result (AllByRecursion T.numbers.IsValue kept.new.items) }
-    ensures numbers { OnOk result (numbers_of T.numbers kept.new.items ≡ numbers_of T.numbers kept.old.items ++ T.numbers.number cut ∷ []) }
+    ensures numbers { OnOk result (numbers_of T.numbers kept.new.items
+        ≡ numbers_of T.numbers kept.old.items ++ T.numbers.number cut ∷ []) }
 {
     cut.in_type();
     match kept.insert(cut) {
@@ -30,9 +32,13 @@ pub(crate) fn push_cut<T: Element>(kept: &mut SortedVectorSet<T>, cut: T) -> Res
 /// Puts the cuts of `range`, which are above all others, behind those kept.
 fn push_cuts<T: Element>(kept: &mut SortedVectorSet<T>, range: Range<T>) -> Result<(), NoMemory>
     requires values { AllByRecursion T.numbers.IsValue kept.old.items }
-    requires ascending { IsAscending T.numbers.least T.numbers.greatest (numbers_of T.numbers kept.old.items ++ list_cuts T.numbers.greatest (in_numbers T.numbers range ∷ [])) }
+    requires ascending { IsAscending T.numbers.least T.numbers.greatest
+        (numbers_of T.numbers kept.old.items ++ list_cuts T.numbers.greatest
+        (in_numbers T.numbers range ∷ [])) }
     ensures values { OnOk result (AllByRecursion T.numbers.IsValue kept.new.items) }
-    ensures numbers { OnOk result (numbers_of T.numbers kept.new.items ≡ numbers_of T.numbers kept.old.items ++ list_cuts T.numbers.greatest (in_numbers T.numbers range ∷ [])) }
+    ensures numbers { OnOk result (numbers_of T.numbers kept.new.items
+        ≡ numbers_of T.numbers kept.old.items ++ list_cuts T.numbers.greatest
+        (in_numbers T.numbers range ∷ [])) }
 {
     match range.end().successor() {
         Some(after) => {
@@ -43,10 +49,11 @@ fn push_cuts<T: Element>(kept: &mut SortedVectorSet<T>, range: Range<T>) -> Resu
     }
 }
 
-/// The cuts of `set`, ascending: the first value of each range, and the value behind the last one of each where the
-/// type has one. Takes O(n) time for n ranges, and memory for 2n cuts.
+/// The cuts of `set`, ascending: the first value of each range, and the value behind the last one
+/// of each where the type has one. Takes O(n) time for n ranges, and memory for 2n cuts.
 pub fn cuts<T: Element>(alloc: Global, set: &RangeSet<T>) -> Result<SortedVectorSet<T>, NoMemory>
-    ensures numbers { IfOk result (λ found. numbers_of T.numbers found.items ≡ list_cuts T.numbers.greatest set.now) }
+    ensures numbers { IfOk result (λ found. numbers_of T.numbers found.items
+        ≡ list_cuts T.numbers.greatest set.now) }
     ensures values { IfOk result (λ found. AllByRecursion T.numbers.IsValue found.items) }
 {
     let mut kept = SortedVectorSet::with_capacity(alloc, set.num_ranges().saturating_mul(2))?;
@@ -67,7 +74,8 @@ pub(crate) fn are_values<T: Element>(list: &[T])
 
 /// The cuts of `set`, in a vector.
 fn listed_cuts<T: Element>(alloc: Global, set: &RangeSet<T>) -> Result<Vec<T>, NoMemory>
-    ensures { IfOk result (λ list. numbers_of T.numbers list.items ≡ list_cuts T.numbers.greatest set.now) }
+    ensures { IfOk result (λ list. numbers_of T.numbers list.items
+        ≡ list_cuts T.numbers.greatest set.now) }
 {
     let mut list = Vec::with_capacity(alloc, set.num_ranges().saturating_mul(2))?;
     for range in set.ranges() {
@@ -81,7 +89,8 @@ fn listed_cuts<T: Element>(alloc: Global, set: &RangeSet<T>) -> Result<Vec<T>, N
 
 /// The cuts of `set`, ascending, each a value of its type.
 pub(crate) fn cut_list<T: Element>(alloc: Global, set: &RangeSet<T>) -> Result<Vec<T>, NoMemory>
-    ensures numbers { IfOk result (λ list. numbers_of T.numbers list.items ≡ list_cuts T.numbers.greatest set.now) }
+    ensures numbers { IfOk result (λ list. numbers_of T.numbers list.items
+        ≡ list_cuts T.numbers.greatest set.now) }
     ensures values { IfOk result (λ list. AllByRecursion T.numbers.IsValue list.items) }
     ensures ascending { IfOk result (λ list. IsStrictlySortedBy T.cmp list.items) }
 {
@@ -91,15 +100,19 @@ pub(crate) fn cut_list<T: Element>(alloc: Global, set: &RangeSet<T>) -> Result<V
     Ok(list)
 }
 
-/// Takes the next cut, which begins a range or ends the one that is begun. Answers the start of a begun range.
+/// Takes the next cut, which begins a range or ends the one that is begun. Answers the start of a
+/// begun range.
 fn take_cut<T: Element>(
     ranges: &mut Vec<Range<T>>,
     begun: Option<T>,
     cut: T,
 ) -> Result<Option<T>, NoMemory>
     requires { IfSome begun (λ start. T.numbers.number start <ℤ T.numbers.number cut) }
-    ensures ranges { IfOk result (λ now. (rest : List ℤ) → all_in_numbers T.numbers ranges.new.items ++ from_cuts T.numbers.greatest (with_begun (option_map T.numbers.number now) rest)
-        ≡ all_in_numbers T.numbers ranges.old.items ++ from_cuts T.numbers.greatest (with_begun (option_map T.numbers.number begun) (T.numbers.number cut ∷ rest))) }
+    ensures ranges { IfOk result (λ now. (rest : List ℤ)
+        → all_in_numbers T.numbers ranges.new.items ++ from_cuts T.numbers.greatest
+        (with_begun (option_map T.numbers.number now) rest)
+        ≡ all_in_numbers T.numbers ranges.old.items ++ from_cuts T.numbers.greatest
+        (with_begun (option_map T.numbers.number begun) (T.numbers.number cut ∷ rest))) }
     ensures begun { IfOk result (λ now. now ≡ cond (is_none begun) (Some cut) None) }
 {
     let Some(start) = begun else {
@@ -115,7 +128,9 @@ fn take_cut<T: Element>(
 
 /// Ends a begun range at the greatest value.
 fn end_at_greatest<T: Element>(ranges: &mut Vec<Range<T>>, begun: Option<T>) -> Result<(), NoMemory>
-    ensures { OnOk result (all_in_numbers T.numbers ranges.new.items ≡ all_in_numbers T.numbers ranges.old.items ++ from_cuts T.numbers.greatest (with_begun (option_map T.numbers.number begun) [])) }
+    ensures { OnOk result (all_in_numbers T.numbers ranges.new.items
+        ≡ all_in_numbers T.numbers ranges.old.items ++ from_cuts T.numbers.greatest
+        (with_begun (option_map T.numbers.number begun) [])) }
 {
     let Some(start) = begun else {
         return Ok(());
@@ -142,14 +157,16 @@ pub fn from_cut_slice<T: Element>(alloc: Global, list: &[T]) -> Result<RangeSet<
     Ok(set)
 }
 
-/// The one set whose cuts are these values: each cut begins a range or ends one, in turn, and the last range goes to
-/// the greatest value of the type where no cut ends it. Takes O(n) time for n cuts, and memory.
+/// The one set whose cuts are these values: each cut begins a range or ends one, in turn, and the
+/// last range goes to the greatest value of the type where no cut ends it. Takes O(n) time for n
+/// cuts, and memory.
 pub fn from_cuts<T: Element>(
     alloc: Global,
     cuts: &SortedVectorSet<T>,
 ) -> Result<RangeSet<T>, NoMemory>
     ensures canonical { IfOk result (IsCanonical T.numbers.least T.numbers.greatest) }
-    ensures cuts { IfOk result (λ set. list_cuts T.numbers.greatest set ≡ numbers_of T.numbers cuts.now.items) }
+    ensures cuts { IfOk result (λ set. list_cuts T.numbers.greatest set
+        ≡ numbers_of T.numbers cuts.now.items) }
 {
     let list = cuts.iter().as_slice();
     are_values(list);
@@ -163,9 +180,9 @@ fn is_at_most<T: Element>(cut: T, x: T) -> bool
     !is_below(x, cut)
 }
 
-/// Whether `x` is a member of the set with these cuts: whether the count of cuts at most `x` is odd. Finds the count
-/// by binary search, in O(log n) comparisons for n cuts, after one pass over the cuts that does nothing with each. Takes
-/// no memory.
+/// Whether `x` is a member of the set with these cuts: whether the count of cuts at most `x` is
+/// odd. Finds the count by binary search, in O(log n) comparisons for n cuts, after one pass over
+/// the cuts that does nothing with each. Takes no memory.
 pub fn contains_by_cuts<T: Element>(cuts: &SortedVectorSet<T>, x: T) -> bool
     ensures { result ≡ parity (numbers_of T.numbers cuts.now.items) (T.numbers.number x) }
 {

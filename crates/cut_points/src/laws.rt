@@ -1,8 +1,8 @@
 //! What holds of cuts, for any numbers.
 ghost use Rattle.cut_points.specs.Laws.{CutsOneToOne, CutsOfSymmetricDifference};
 
-/// The cuts of canonical lists are the ascending lists of numbers, one for each, and a number is a member exactly
-/// where the count of cuts at most it is odd.
+/// The cuts of canonical lists are the ascending lists of numbers, one for each, and a number is a
+/// member exactly where the count of cuts at most it is odd.
 pub fn cuts_one_to_one()
     ensures { CutsOneToOne }
 {}

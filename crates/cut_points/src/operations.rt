@@ -27,15 +27,16 @@ fn in_just_one<T: Element>(alloc: Global, left: &[T], right: &[T]) -> Result<Vec
     Ok(both)
 }
 
-/// The set of the values that are members of just one of the two sets. Its cuts are those that just one of them has.
-/// Takes O(n + m) time for n and m ranges, and memory.
+/// The set of the values that are members of just one of the two sets. Its cuts are those that just
+/// one of them has. Takes O(n + m) time for n and m ranges, and memory.
 pub fn symmetric_difference<T: Element>(
     alloc: Global,
     left: &RangeSet<T>,
     right: &RangeSet<T>,
 ) -> Result<RangeSet<T>, NoMemory>
     ensures canonical { IfOk result (IsCanonical T.numbers.least T.numbers.greatest) }
-    ensures members { IfOk result (λ set. (x : ℤ) → T.numbers.least ≤ℤ x → x ≤ℤ T.numbers.greatest → holds set x ≡ xor (holds left.now x) (holds right.now x)) }
+    ensures members { IfOk result (λ set. (x : ℤ) → T.numbers.least ≤ℤ x → x ≤ℤ T.numbers.greatest
+        → holds set x ≡ xor (holds left.now x) (holds right.now x)) }
 {
     left.ranges();
     right.ranges();
@@ -46,15 +47,16 @@ pub fn symmetric_difference<T: Element>(
     Ok(set)
 }
 
-/// The set of the members of `left` that aren't members of `right`. Takes O(n + m) time for n and m ranges, and
-/// memory: it negates `right` and intersects.
+/// The set of the members of `left` that aren't members of `right`. Takes O(n + m) time for n and m
+/// ranges, and memory: it negates `right` and intersects.
 pub fn difference<T: Element>(
     alloc: Global,
     left: &RangeSet<T>,
     right: &RangeSet<T>,
 ) -> Result<RangeSet<T>, NoMemory>
     ensures canonical { IfOk result (IsCanonical T.numbers.least T.numbers.greatest) }
-    ensures members { IfOk result (λ set. (x : ℤ) → T.numbers.least ≤ℤ x → x ≤ℤ T.numbers.greatest → holds set x ≡ (holds left.now x && not (holds right.now x))) }
+    ensures members { IfOk result (λ set. (x : ℤ) → T.numbers.least ≤ℤ x → x ≤ℤ T.numbers.greatest
+        → holds set x ≡ (holds left.now x && not (holds right.now x))) }
 {
     let others = right.negated(alloc)?;
     let set = left.intersection(alloc, &others)?;

@@ -1,5 +1,5 @@
-//! Types whose values are numbered from a least to a greatest one, and the errors for want of memory that every
-//! crate of the workspace shares.
+//! Types whose values are numbered from a least to a greatest one, and the errors for want of
+//! memory that every crate of the workspace shares.
 #![tactic(auto)]
 
 mod element;

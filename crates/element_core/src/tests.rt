@@ -4,7 +4,8 @@ use std::cmp::Ordering;
 use std::process::Abort;
 use std::test::Fail;
 
-/// The calls at the two ends of a type that has at least two values and `steps` steps between its ends.
+/// The calls at the two ends of a type that has at least two values and `steps` steps between its
+/// ends.
 fn stops_at_both_ends<T: Element>(rt: &impl Abort, steps: usize) {
     let least = T::min_value();
     let greatest = T::max_value();

@@ -12,8 +12,8 @@ pub fn runs_are_canonical()
     ensures { RunsAreCanonical }
 {}
 
-/// The segments of a labelling cut the numbers where the label changes, and no other list does. Labels are
-/// compared by `==` of their type.
+/// The segments of a labelling cut the numbers where the label changes, and no other list does.
+/// Labels are compared by `==` of their type.
 pub fn segments_are_the_cut<L: Eq>()
     ensures { SegmentsAreTheCut L.eq }
 {}

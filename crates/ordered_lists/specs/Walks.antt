@@ -13,7 +13,8 @@ module _ {A : Type 0} (cmp : A → A → Ordering) (left both right : Bool) wher
   -- the walk with x in hand and then xs on the left, where `on` is the walk of xs
   abbrev pub walk_from : A → List A → (List A → List A) → List A → List A
   walk_from x xs on [] = if left then x ∷ xs else []
-  walk_from x xs on (y ∷ ys) = match_ordering (cmp x y) (keep left x (on (y ∷ ys))) (keep both x (on ys)) (keep right y (walk_from x xs on ys))
+  walk_from x xs on (y ∷ ys) = match_ordering (cmp x y) (keep left x (on (y ∷ ys))) (keep both x (on ys))
+      (keep right y (walk_from x xs on ys))
 
   abbrev pub walk : List A → List A → List A
   walk [] ys = if right then ys else []

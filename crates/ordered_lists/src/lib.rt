@@ -1,5 +1,5 @@
-//! Lists in order: definitions and laws that the crates of streams and of sorted vectors cite. The crate has no
-//! data and no code of its own.
+//! Lists in order: definitions and laws that the crates of streams and of sorted vectors cite. The
+//! crate has no data and no code of its own.
 #![tactic(auto)]
 
 pub mod laws;

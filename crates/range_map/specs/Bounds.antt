@@ -80,11 +80,13 @@ pub record Active : Type 0 where
 -- the places are those at n, and the bounds still to come give those at every later number
 abbrev pub AreActive : ℤ → List (ℤ × ℤ) → ℤ → Active → Type 0
 AreActive greatest ranges n active =
-    (place : ℕ) (x : ℤ) → n ≤ℤ x → x ≤ℤ greatest → xor (has_place active.places place) (crossed active.rest place x) ≡ lies_at ranges place x
+    (place : ℕ) (x : ℤ) → n ≤ℤ x → x ≤ℤ greatest → xor (has_place active.places place) (crossed active.rest place x)
+    ≡ lies_at ranges place x
 
 -- where the bounds are those of some ranges, the places are active at any number
 abbrev pub StartsActive : ℤ → List (ℤ × ℕ) → Active → Type 0
-StartsActive greatest bounds active = (ranges : List (ℤ × ℤ)) (n : ℤ) → AreBounds greatest ranges bounds → AreActive greatest ranges n active
+StartsActive greatest bounds active = (ranges : List (ℤ × ℤ)) (n : ℤ) → AreBounds greatest ranges bounds
+    → AreActive greatest ranges n active
 
 -- what was active at x is, after x was entered, active at each number from x on
 abbrev pub StaysActive : ℤ → ℤ → Active → Active → Type 0

@@ -32,7 +32,8 @@ impl<T: Element> RangeSet<T> {
         }
     }
 
-    /// The number of members, or `usize::MAX` where there are more. Takes O(n) time for n ranges, and no memory.
+    /// The number of members, or `usize::MAX` where there are more. Takes O(n) time for n ranges,
+    /// and no memory.
     pub fn num_elements(&self) -> usize
         ensures { result ≡ min (length (members self.now)) usize.MAX }
     {

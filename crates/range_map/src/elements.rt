@@ -10,8 +10,8 @@ use crate::range::Range;
 use crate::set::RangeSet;
 use element_core::{Element, is_at_most};
 
-/// The members of a set, ascending. Contracts speak of those still to come by `members_left`, the list of their
-/// numbers.
+/// The members of a set, ascending. Contracts speak of those still to come by `members_left`, the
+/// list of their numbers.
 ///
 /// Each call takes O(1) time and no memory.
 #[derive(Clone, Copy, Debug)]

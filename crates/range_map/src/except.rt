@@ -54,9 +54,10 @@ fn all_but<T: Element>(alloc: Global, values: &[T]) -> Result<Option<RangeSet<T>
 }
 
 impl<T: Element> RangeSet<T> {
-    /// The set of all values but those that `it` gives, or `None` where some of these is less than the one before it.
-    /// A value may come again and again; where none comes, the set is full. Takes O(n) calls of `next`,
-    /// O(n log n) time for n values, and memory for the values and for the set.
+    /// The set of all values but those that `it` gives, or `None` where some of these is less than
+    /// the one before it. A value may come again and again; where none comes, the set is full.
+    /// Takes O(n) calls of `next`, O(n log n) time for n values, and memory for the values and for
+    /// the set.
     pub fn except<I: Iterator<Item = T>>(alloc: Global, it: I) -> Result<Option<Self>, NoMemory>
         requires { I.can_next it × IsFinite (I.remaining it) }
         ensures { IfOk result (λ set. (values : List T) × Drains I.next_gives it values

@@ -15,8 +15,8 @@ pub fn same_values_same_map<V: Eq>()
     ensures { SameValuesSameList V.eq }
 {}
 
-/// What is left out by one that leaves out the members of a set is the set: two canonical lists each of which has, at
-/// every number between the ends, what a third one hasn't, are the same list.
+/// What is left out by one that leaves out the members of a set is the set: two canonical lists
+/// each of which has, at every number between the ends, what a third one hasn't, are the same list.
 pub fn negated_twice_is_the_set()
     ensures { NegatedTwice }
 {}

@@ -28,7 +28,8 @@ fn clones_of_pairs<T: Element, V: Eq + Clone + Drop>(
 }
 
 impl<T: Element, V: Eq> RangeMap<T, V> {
-    /// A map equal to this one, with clones of its values. Takes O(n) time for n ranges, beside the clones.
+    /// A map equal to this one, with clones of its values. Takes O(n) time for n ranges, beside the
+    /// clones.
     pub fn try_clone(&self, alloc: Global) -> Result<Self, NoMemory>
     where
         V: Clone + Drop,

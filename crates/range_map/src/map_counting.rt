@@ -53,7 +53,8 @@ impl<T: Element, V: Eq> RangeMap<T, V> {
         false
     }
 
-    /// The number of keys, or `usize::MAX` where there are more. Takes O(n) time for n ranges, and no memory.
+    /// The number of keys, or `usize::MAX` where there are more. Takes O(n) time for n ranges, and
+    /// no memory.
     pub fn num_keys(&self) -> usize
         ensures { result ≡ min (length (members (ranges_of self.now))) usize.MAX }
     {

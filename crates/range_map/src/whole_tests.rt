@@ -1,5 +1,5 @@
-//! What no contract shows of counts, members and sets of all but some: that the calls succeed where memory
-//! suffices, and that the contracts say what is meant.
+//! What no contract shows of counts, members and sets of all but some: that the calls succeed where
+//! memory suffices, and that the contracts say what is meant.
 use crate::whole_callers::{free_days, lets_in};
 use crate::{Range, RangeMap, RangeSet};
 use element_core::{Element, NoMemory};

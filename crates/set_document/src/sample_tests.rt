@@ -6,7 +6,9 @@ fn four_lines_are_one_of_each_kind(rt: HostRuntime) -> Result<(), AlgebraError> 
     let text = sample_text(rt.alloc(), 4)?;
     assert!(&rt;
         text.as_slice()
-            == b"aaa: 0..=25\naab: 10..=35 aaa |\naac: 20..=45 aab ^\naad: aac ! 30..=55 &\n".as_slice()
+            == b"aaa: 0..=25\naab: 10..=35 aaa |\naac: 20..=45 aab ^\n\
+            aad: aac ! 30..=55 &\n"
+                .as_slice()
     );
     Ok(())
 }

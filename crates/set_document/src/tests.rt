@@ -92,7 +92,8 @@ fn the_ends_of_the_type_are_reached(rt: HostRuntime) -> Result<(), AlgebraError>
             ),
             (
                 "a: 9223372036854775807 -9223372036854775808 |\n",
-                "a: -9223372036854775808..=-9223372036854775808 9223372036854775807..=9223372036854775807 |\n",
+                "a: -9223372036854775808..=-9223372036854775808 \
+                9223372036854775807..=9223372036854775807 |\n",
             ),
             (
                 "a: -9223372036854775808..=9223372036854775806 9223372036854775807 |\n",
@@ -207,7 +208,8 @@ fn a_name_is_the_set_of_its_latest_line(rt: HostRuntime) -> Result<(), AlgebraEr
             ),
             (
                 "web: 80 443 | 8000..=8099 |\nlow: 0..=1023\nopen: web low &\n",
-                "web: 80..=80 443..=443 | 8000..=8099 |\nlow: 0..=1023\nopen: 80..=80 443..=443 |\n",
+                "web: 80..=80 443..=443 | 8000..=8099 |\nlow: 0..=1023\n\
+                open: 80..=80 443..=443 |\n",
             ),
             (
                 "a: full\nb: empty\nc: a b ^ !\n",
@@ -240,7 +242,10 @@ fn lines_and_words_are_read(rt: HostRuntime) {
     assert!(&rt; matches!(read_line(b"# any bytes\n"), LineForm::Comment));
     assert!(&rt; matches!(read_line(b"# any bytes"), LineForm::Bad));
     assert!(&rt;
-        matches!(read_line(b"ab: 1 2\n"), LineForm::Named(name, Some(words)) if name.as_bytes() == b"ab".as_slice() && words == b"1 2".as_slice())
+        matches!(
+        read_line(b"ab: 1 2\n"), LineForm::Named(name, Some(words))
+        if name.as_bytes() == b"ab".as_slice() && words == b"1 2".as_slice()
+    )
     );
     assert!(&rt; matches!(read_line(b"ab:\n"), LineForm::Named(_, None)));
     assert!(&rt;
@@ -258,7 +263,9 @@ fn lines_and_words_are_read(rt: HostRuntime) {
     assert!(&rt; matches!(read_word(b"-"), Some(Word::Minus)));
     assert!(&rt; matches!(read_word(b"^"), Some(Word::Xor)));
     assert!(&rt;
-        matches!(read_word(b"fuller"), Some(Word::Named(name)) if name.as_bytes() == b"fuller".as_slice())
+        matches!(
+        read_word(b"fuller"), Some(Word::Named(name)) if name.as_bytes() == b"fuller".as_slice()
+    )
     );
     assert!(&rt; read_word(b"").is_none());
     assert!(&rt; read_word(b"||").is_none());

@@ -13,7 +13,8 @@ use Rattle.sorted_iter.specs.Streams.{assumed_source, assumed_steps}
 use Rattle.sorted_iter.specs.Copies.{GoesAlike, ClonesGoAlike}
 
 -- whatever a call on a clone does, a call on its source may do, and what they leave are a clone and its source again
-module _ {S A : Type 0} (clones : S → S → Type 0) (can : S → Type 0) (left : S → Count) (steps : S → Option A → S → Type 0) (callable : (s t : S) → clones s t → can s → can t) (finite : (s t : S) → clones s t → IsFinite (left s) → IsFinite (left t))
+module _ {S A : Type 0} (clones : S → S → Type 0) (can : S → Type 0) (left : S → Count) (steps : S → Option A → S → Type 0)
+    (callable : (s t : S) → clones s t → can s → can t) (finite : (s t : S) → clones s t → IsFinite (left s) → IsFinite (left t))
     (follows : (s t u : S) (r : Option A) → clones s t → steps t r u → (v : S) × steps s r v × clones v u) where
   yields-follow : (xs : List A) (s t u : S) → clones s t → Yields steps t xs u → (v : S) × Yields steps s xs v × clones v u
   yields-follow [] s t u c e = (s, refl, subst (clones s) e c)
@@ -53,20 +54,28 @@ module _ {S X : Type 0} (it : S → Iter X) where
   abbrev pub slice_steps : S → Option X → S → Type 0
   slice_steps s r t = (o : Option (Bor X)) × iter_steps (it s) o (it t) × (r ≡ option_copied o)
 
-  slice-follows : (s t u : S) (r : Option X) (o : Option (Bor X)) → iter_rest (it t) ≡ iter_rest (it s) → iter_steps (it t) o (it u) → r ≡ option_copied o → (v : S) × slice_steps s r v × (iter_rest (it u) ≡ iter_rest (it v))
+  slice-follows : (s t u : S) (r : Option X) (o : Option (Bor X)) → iter_rest (it t) ≡ iter_rest (it s) → iter_steps (it t) o (it u)
+      → r ≡ option_copied o → (v : S) × slice_steps s r v × (iter_rest (it u) ≡ iter_rest (it v))
   slice-follows s t u r None c k e = (s, (None, (ap length (sym c) ∙ k.0, refl), e), ap iter_rest k.1 ∙ c)
   slice-follows s t u r (Some x) c k e = (u, (Some x, sym c ∙ k, e), refl)
 
-  pub clones-of_slice : (can : S → Type 0) (left : S → Count) → ((s t : S) → can s → can t) → ((s t : S) → IsFinite (left s) → IsFinite (left t)) → ClonesGoAlike (λ s t. iter_rest (it t) ≡ iter_rest (it s)) can left slice_steps
-  clones-of_slice can left callable finite = clones-by_steps (λ s t. iter_rest (it t) ≡ iter_rest (it s)) can left slice_steps (λ s t c k. callable s t k) (λ s t c k. finite s t k) (λ s t u r c k. slice-follows s t u r k.0 c k.1 k.2)
+  pub clones-of_slice : (can : S → Type 0) (left : S → Count) → ((s t : S) → can s → can t)
+      → ((s t : S) → IsFinite (left s) → IsFinite (left t)) → ClonesGoAlike (λ s t. iter_rest (it t) ≡ iter_rest (it s)) can left
+      slice_steps
+  clones-of_slice can left callable finite = clones-by_steps (λ s t. iter_rest (it t) ≡ iter_rest (it s)) can left slice_steps
+      (λ s t c k. callable s t k) (λ s t c k. finite s t k) (λ s t u r c k. slice-follows s t u r k.0 c k.1 k.2)
 
 module _ {X : Type 0} where
   -- `iter().copied()` of a slice
-  pub clones-of_copied : (can : Copied (Iter X) → Type 0) (left : Copied (Iter X) → Count) → ((s t : Copied (Iter X)) → can s → can t) → ((s t : Copied (Iter X)) → IsFinite (left s) → IsFinite (left t))
+  pub clones-of_copied : (can : Copied (Iter X) → Type 0) (left : Copied (Iter X) → Count) → ((s t : Copied (Iter X)) → can s → can t)
+      → ((s t : Copied (Iter X)) → IsFinite (left s) → IsFinite (left t))
       → ClonesGoAlike (λ s t. iter_rest (copied_source t) ≡ iter_rest (copied_source s)) can left (copied_steps (iter_steps {A = X}))
   clones-of_copied = clones-of_slice copied_source
 
   -- the same, handed to `assume_sorted_by_item`
-  pub clones-of_listed : (can : AssumeSortedByItem (Copied (Iter X)) → Type 0) (left : AssumeSortedByItem (Copied (Iter X)) → Count) → ((s t : AssumeSortedByItem (Copied (Iter X))) → can s → can t) → ((s t : AssumeSortedByItem (Copied (Iter X))) → IsFinite (left s) → IsFinite (left t))
-      → ClonesGoAlike (λ s t. iter_rest (copied_source (assumed_source t)) ≡ iter_rest (copied_source (assumed_source s))) can left (assumed_steps (copied_steps (iter_steps {A = X})))
+  pub clones-of_listed : (can : AssumeSortedByItem (Copied (Iter X)) → Type 0) (left : AssumeSortedByItem (Copied (Iter X)) → Count)
+      → ((s t : AssumeSortedByItem (Copied (Iter X))) → can s → can t)
+      → ((s t : AssumeSortedByItem (Copied (Iter X))) → IsFinite (left s) → IsFinite (left t))
+      → ClonesGoAlike (λ s t. iter_rest (copied_source (assumed_source t)) ≡ iter_rest (copied_source (assumed_source s))) can left
+      (assumed_steps (copied_steps (iter_steps {A = X})))
   clones-of_listed = clones-of_slice (λ s. copied_source (assumed_source s))

@@ -20,7 +20,8 @@ pub record GoesAlike {S A : Type 0} (can : S → Type 0) (left : S → Count) (s
   pub same : (xs : List A) (whole : Bool) → DrainsIf steps (whole ≡ true) t xs → DrainsIf steps (whole ≡ true) s xs
 
 -- each clone of an iterator gives what the iterator gives
-pub record ClonesGoAlike {S A : Type 0} (clones : S → S → Type 0) (can : S → Type 0) (left : S → Count) (steps : S → Option A → S → Type 0) : Type 0 where
+pub record ClonesGoAlike {S A : Type 0} (clones : S → S → Type 0) (can : S → Type 0) (left : S → Count)
+    (steps : S → Option A → S → Type 0) : Type 0 where
   pub alike : (s t : S) → clones s t → GoesAlike can left steps s t
 
 -- each clone of an item is equal to the item
@@ -39,9 +40,12 @@ IsAheadClone sources items s t = sources s.source t.source × IsHeadClone items 
 
 -- the stream t is a copy of the stream s, of which `sides` are the two sides: it may be called and is in order where s is, and
 -- where what is to come from the sides of s is known, what is to come from t is equal, item by item, to what is to come from s
-pub record IsCopy {U S T A : Type 0} (sides : U → Sides S T A A) (cmp : A → A → Ordering) (eq : A → A → Bool) (f : List A → List A → List A) (can : S → Type 0) (left : S → Count) (firsts : S → Option A → S → Type 0)
-    (can' : T → Type 0) (left' : T → Count) (seconds : T → Option A → T → Type 0) (steps : U → Option A → U → Type 0) (s t : U) : Type 0 where
+pub record IsCopy {U S T A : Type 0} (sides : U → Sides S T A A) (cmp : A → A → Ordering) (eq : A → A → Bool) (f : List A → List A → List A)
+    (can : S → Type 0) (left : S → Count) (firsts : S → Option A → S → Type 0)
+    (can' : T → Type 0) (left' : T → Count) (seconds : T → Option A → T → Type 0) (steps : U → Option A → U → Type 0)
+    (s t : U) : Type 0 where
   pub callable : sides_can can left can' left' (sides s) → sides_can can left can' left' (sides t)
   pub in_order : sides_ascend cmp firsts cmp seconds (sides s) → sides_ascend cmp firsts cmp seconds (sides t)
-  pub lists : (xs ys : List A) → WillGive firsts (sides s).left xs → WillGive seconds (sides s).right ys → IsStrictlySortedBy cmp xs → IsStrictlySortedBy cmp ys
+  pub lists : (xs ys : List A) → WillGive firsts (sides s).left xs → WillGive seconds (sides s).right ys → IsStrictlySortedBy cmp xs
+      → IsStrictlySortedBy cmp ys
       → GivesList steps s (f xs ys) × ((zs : List A) × AllZip (λ x z. eq z x ≡ true) (f xs ys) zs × GivesList steps t zs)

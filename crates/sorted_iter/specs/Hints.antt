@@ -60,12 +60,15 @@ symmetric_difference_hint a b = (max (less_where_known b.0 a.1) (less_where_know
 
 -- The hint of a stream s is made by `combine` of hints of its two sources, with the items that are held in front of these counted. Where
 -- what is to come from the sides is known, and both hints bound what is to come from the sources, it bounds what is to come from s.
-pub record IsHintOf {U S T A : Type 0} (sides : U → Sides S T A A) (cmp : A → A → Ordering) (f : List A → List A → List A) (combine : Hint → Hint → Hint) (left : S → Count) (firsts : S → Option A → S → Type 0)
+pub record IsHintOf {U S T A : Type 0} (sides : U → Sides S T A A) (cmp : A → A → Ordering) (f : List A → List A → List A)
+    (combine : Hint → Hint → Hint) (left : S → Count) (firsts : S → Option A → S → Type 0)
     (left' : T → Count) (seconds : T → Option A → T → Type 0) (s : U) (hint : Hint) : Type 0 where
   pub first : Hint
   pub second : Hint
   pub first_kept : IsHint (left (sides s).left.source) first
   pub second_kept : IsHint (left' (sides s).right.source) second
   pub is : hint ≡ combine (ahead_hint (sides s).left.head first) (ahead_hint (sides s).right.head second)
-  pub bounds : (xs ys : List A) (v : WillGive firsts (sides s).left xs) (w : WillGive seconds (sides s).right ys) → IsStrictlySortedBy cmp xs → IsStrictlySortedBy cmp ys
-      → (is_ended (sides s).left.head ≡ false → Bounds first v.rest) → (is_ended (sides s).right.head ≡ false → Bounds second w.rest) → Bounds hint (f xs ys)
+  pub bounds : (xs ys : List A) (v : WillGive firsts (sides s).left xs) (w : WillGive seconds (sides s).right ys)
+      → IsStrictlySortedBy cmp xs → IsStrictlySortedBy cmp ys
+      → (is_ended (sides s).left.head ≡ false → Bounds first v.rest) → (is_ended (sides s).right.head ≡ false → Bounds second w.rest)
+      → Bounds hint (f xs ys)

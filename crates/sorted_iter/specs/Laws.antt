@@ -14,20 +14,24 @@ use Rattle.sorted_iter.specs.TwoSides.{StepsTwo, sides_ascend}
 use Rattle.sorted_iter.specs.TwoSidesLemmas.{Through, through-in_order, two-in_order}
 
 -- a stream that walks along two sides in order is in order
-pub walk-in_order : {U S T A : Type 0} (left both right : Bool) {cmp : A → A → Ordering} (firsts : S → Option A → S → Type 0) (seconds : T → Option A → T → Type 0) → IsTotalOrder cmp → (sides : U → Sides S T A A) (s : U)
+pub walk-in_order : {U S T A : Type 0} (left both right : Bool) {cmp : A → A → Ordering} (firsts : S → Option A → S → Type 0)
+    (seconds : T → Option A → T → Type 0) → IsTotalOrder cmp → (sides : U → Sides S T A A) (s : U)
     → sides_ascend cmp firsts cmp seconds (sides s) → InOrder cmp (Through sides (StepsTwo (walk cmp left both right) firsts seconds)) s
 walk-in_order left both right {cmp} firsts seconds o sides s h =
-    through-in_order sides (StepsTwo (walk cmp left both right) firsts seconds) cmp s (two-in_order (walk cmp left both right) firsts seconds (ascends-walk o left both right) (sides s) h.0 h.1)
+    through-in_order sides (StepsTwo (walk cmp left both right) firsts seconds) cmp s
+    (two-in_order (walk cmp left both right) firsts seconds (ascends-walk o left both right) (sides s) h.0 h.1)
 
 -- what holds of each state after a `None` holds after every further one
-pub over_rests : {S A : Type 0} (steps : S → Option A → S → Type 0) (Over : S → Type 0) → ((s t : S) → steps s None t → Over t) → (n : ℕ) (s t : S) → Over s → Rests steps n s t → Over t
+pub over_rests : {S A : Type 0} (steps : S → Option A → S → Type 0) (Over : S → Type 0) → ((s t : S) → steps s None t → Over t)
+    → (n : ℕ) (s t : S) → Over s → Rests steps n s t → Over t
 over_rests steps Over ends zero s t h e = subst Over e h
 over_rests steps Over ends (suc n) s t h e = over_rests steps Over ends n e.0 t (ends s e.0 e.1) e.2
 
 -- An iterator is in order where each item is below all that come after it, which `Below` says of a state, and where `Over` holds of
 -- each state after a `None` and of no state from which an item comes.
 module _ {S A : Type 0} (cmp : A → A → Ordering) (steps : S → Option A → S → Type 0) (Below : A → S → Type 0) (Over : S → Type 0)
-    (lower : (s t : S) (x : A) → steps s (Some x) t → Below x t) (stays : (s t : S) (x b : A) → steps s (Some x) t → Below b s → (cmp b x ≡ Less) × Below b t)
+    (lower : (s t : S) (x : A) → steps s (Some x) t → Below x t) (stays : (s t : S) (x b : A) → steps s (Some x) t → Below b s
+    → (cmp b x ≡ Less) × Below b t)
     (ends : (s t : S) → steps s None t → Over t) (stops : (s t : S) (x : A) → steps s (Some x) t → Over s → ⊥) where
   all_after : (xs : List A) (s t : S) (b : A) → Below b s → Yields steps s xs t → AllByRecursion (λ y. cmp b y ≡ Less) xs
   all_after [] s t b h e = tt

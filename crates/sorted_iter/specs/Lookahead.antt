@@ -58,7 +58,8 @@ module _ {S A : Type 0} where
     pub items : pending s.head ++ read ≡ us ++ pending t.head
 
   -- `take` answered r: it passed r, and no item is held after it
-  pub record Takes (can : S → Type 0) (left : S → Count) (steps : S → Option A → S → Type 0) (s : Ahead S A) (r : Option A) (t : Ahead S A) : Type 0 where
+  pub record Takes (can : S → Type 0) (left : S → Count) (steps : S → Option A → S → Type 0) (s : Ahead S A) (r : Option A)
+      (t : Ahead S A) : Type 0 where
     pub passed : Passes steps s (option_to_list r) t
     pub head : MatchOption r (t.head ≡ Ended) (λ _. t.head ≡ Unread)
     pub callable : ahead_can can t

@@ -11,7 +11,8 @@ module _ {S A : Type 0} (steps : S → Option A → S → Type 0) where
   reads-ended [] a b s t h (inr e) = absurd (true≢false (sym h ∙ e.0))
   reads-ended (x ∷ xs) a b s t h e = absurd (true≢false (sym h ∙ e.0))
 
-  pub reads-append : (xs : List A) (a b c : Bool) (s t u : S) (ys : List A) → Reads steps a s xs b t → Reads steps b t ys c u → Reads steps a s (xs ++ ys) c u
+  pub reads-append : (xs : List A) (a b c : Bool) (s t u : S) (ys : List A) → Reads steps a s xs b t → Reads steps b t ys c u
+      → Reads steps a s (xs ++ ys) c u
   reads-append [] a b c s t u ys (inl e) k = subst (λ z. Reads steps z s ys c u) (sym e.0) (subst (λ z. Reads steps b z ys c u) (sym e.1) k)
   reads-append [] a b c s t u ys (inr e) k =
       let z = reads-ended ys b c t u e.1 k in
@@ -24,9 +25,16 @@ module _ {S A : Type 0} (steps : S → Option A → S → Type 0) where
   reads-drains (x ∷ xs) a b s t h e = let m = reads-drains xs false b e.1 t refl e.3 in (m.0, (e.1, e.2, m.1), m.2)
 
   -- where zs are all the items to come, xs are the front of them
-  pub reads-always : (xs : List A) (a b : Bool) (s t : S) (zs : List A) → a ≡ false → AlwaysYields steps (λ x. x) s zs → Reads steps a s xs b t
+  pub reads-always : (xs : List A) (a b : Bool) (s t : S) (zs : List A) → a ≡ false → AlwaysYields steps (λ x. x) s zs
+      → Reads steps a s xs b t
       → (rest : List A) × (zs ≡ xs ++ rest) × (b ≡ true → rest ≡ []) × (b ≡ false → AlwaysYields steps (λ x. x) t rest)
-  reads-always [] a b s t zs h k (inl e) = (zs, refl, (λ z. absurd (true≢false (sym z ∙ sym e.0 ∙ h))), λ _. subst (λ v. AlwaysYields steps (λ x. x) v zs) e.1 k)
+  reads-always [] a b s t zs h k (inl e) = (
+    zs,
+    refl,
+    (λ z. absurd (true≢false (sym z ∙ sym e.0 ∙ h))),
+    λ _. subst
+        (λ v. AlwaysYields steps (λ x. x) v zs) e.1 k,
+  )
   reads-always [] a b s t [] h k (inr e) = ([], refl, (λ _. refl), λ z. absurd (true≢false (sym e.1 ∙ z)))
   reads-always [] a b s t (z ∷ zs) h k (inr e) = absurd (k.0 t e.2)
   reads-always (x ∷ xs) a b s t [] h k e = absurd (k x e.1 e.2)
@@ -46,23 +54,28 @@ module _ {S A : Type 0} {steps : S → Option A → S → Type 0} where
   pub passes-append : {s t u : Ahead S A} {us vs : List A} → Passes steps s us t → Passes steps t vs u → Passes steps s (us ++ vs) u
   passes-append {s} {t} {u} {us} {vs} a b = record {
     read = a.read ++ b.read;
-    calls = reads-append steps a.read (is_ended s.head) (is_ended t.head) (is_ended u.head) s.source t.source u.source b.read a.calls b.calls;
-    items = sym (append_assoc (pending s.head) a.read b.read) ∙ ap (λ l. l ++ b.read) a.items ∙ append_assoc us (pending t.head) b.read ∙ ap (λ l. us ++ l) b.items ∙ sym (append_assoc us vs (pending u.head));
+    calls = reads-append steps a.read (is_ended s.head) (is_ended t.head) (is_ended u.head) s.source t.source u.source b.read a.calls
+        b.calls;
+    items = sym (append_assoc (pending s.head) a.read b.read) ∙ ap (λ l. l ++ b.read) a.items ∙ append_assoc us (pending t.head) b.read ∙ ap
+        (λ l. us ++ l) b.items ∙ sym (append_assoc us vs (pending u.head));
   }
 
   -- what may follow t, behind what was passed, may follow s
   pub passes-follow : {s t : Ahead S A} {us xs : List A} → Passes steps s us t → MayFollow t xs → MayFollow s (us ++ xs)
   passes-follow {s} {t} {us} {xs} p m = record {
     rest = p.read ++ m.rest;
-    is = ap (λ l. us ++ l) m.is ∙ sym (append_assoc us (pending t.head) m.rest) ∙ ap (λ l. l ++ m.rest) (sym p.items) ∙ append_assoc (pending s.head) p.read m.rest;
-    at_end = λ e. let z = reads-ended steps p.read (is_ended s.head) (is_ended t.head) s.source t.source e p.calls in ap₂ (λ k l. k ++ l) z.0 (m.at_end z.1);
+    is = ap (λ l. us ++ l) m.is ∙ sym (append_assoc us (pending t.head) m.rest) ∙ ap (λ l. l ++ m.rest) (sym p.items) ∙ append_assoc
+        (pending s.head) p.read m.rest;
+    at_end = λ e. let z = reads-ended steps p.read (is_ended s.head) (is_ended t.head) s.source t.source e p.calls
+        in ap₂ (λ k l. k ++ l) z.0 (m.at_end z.1);
   }
 
   pub will-follow : {h : Ahead S A} {xs : List A} → WillGive steps h xs → MayFollow h xs
   will-follow w = record { rest = w.rest; is = w.is; at_end = w.at_end }
 
   -- what was passed is the front of what the source will give
-  pub passes-will : {s t : Ahead S A} {us xs : List A} → Passes steps s us t → WillGive steps s xs → (ys : List A) × (xs ≡ us ++ ys) × WillGive steps t ys
+  pub passes-will : {s t : Ahead S A} {us xs : List A} → Passes steps s us t → WillGive steps s xs
+      → (ys : List A) × (xs ≡ us ++ ys) × WillGive steps t ys
   passes-will {s} {t} {us} {xs} p w = go (is_ended s.head) refl
     where
       go : (b : Bool) → is_ended s.head ≡ b → (ys : List A) × (xs ≡ us ++ ys) × WillGive steps t ys
@@ -75,6 +88,7 @@ module _ {S A : Type 0} {steps : S → Option A → S → Type 0} where
       go false e =
           let m = reads-always steps p.read (is_ended s.head) (is_ended t.head) s.source t.source w.rest e (w.runs e) p.calls in (
             pending t.head ++ m.0,
-            w.is ∙ ap (λ l. pending s.head ++ l) m.1 ∙ sym (append_assoc (pending s.head) p.read m.0) ∙ ap (λ l. l ++ m.0) p.items ∙ append_assoc us (pending t.head) m.0,
+            w.is ∙ ap (λ l. pending s.head ++ l) m.1 ∙ sym (append_assoc (pending s.head) p.read m.0) ∙ ap
+                (λ l. l ++ m.0) p.items ∙ append_assoc us (pending t.head) m.0,
             record { rest = m.0; is = refl; at_end = m.2; runs = m.3 },
           )

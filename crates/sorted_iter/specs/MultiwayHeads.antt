@@ -35,14 +35,18 @@ module _ {S A : Type 0} where
   module _ (steps : S → Option A → S → Type 0) where
     -- the input s at place p was asked for an item: it has ended, or it is now one head
     abbrev pub Begun : S → ℕ → List (InputHead S A) → Type 0
-    Begun s p one = ((u : S) × steps s None u × (one ≡ [])) ⊎ ((y : A) × (u : S) × steps s (Some y) u × (one ≡ record { item = y; rest = u; place = p } ∷ []))
+    Begun s p one = ((u : S) × steps s None u × (one ≡ [])) ⊎ ((y : A) × (u : S) × steps s (Some y) u
+        × (one ≡ record { item = y; rest = u; place = p } ∷ []))
 
     -- `advance`: the item went out and the next one came in, or the input has ended and the item stays
     abbrev pub GoesOn : InputHead S A → Option A → InputHead S A → Type 0
-    GoesOn h r k = MatchOption r (steps h.rest None k.rest × (k.item ≡ h.item)) (λ x. (x ≡ h.item) × steps h.rest (Some k.item) k.rest × (k.place ≡ h.place))
+    GoesOn h r k = MatchOption r (steps h.rest None k.rest × (k.item ≡ h.item))
+        (λ x. (x ≡ h.item) × steps h.rest (Some k.item) k.rest × (k.place ≡ h.place))
 
 -- The item x of one of the heads hs goes out, and no other head has a lesser one. That head is asked for its input's next item, and
 -- then ks are the heads.
-abbrev pub TakesLeast : {S A : Type 0} → (A → A → Ordering) → (S → Option A → S → Type 0) → List (InputHead S A) → A → List (InputHead S A) → Type 0
-TakesLeast {S} {A} cmp steps hs x ks = (h : InputHead S A) × (others : List (InputHead S A)) × (one : List (InputHead S A)) × IsPermutation hs (h ∷ others) × (h.item ≡ x)
+abbrev pub TakesLeast : {S A : Type 0} → (A → A → Ordering) → (S → Option A → S → Type 0) → List (InputHead S A) → A → List (InputHead S A)
+    → Type 0
+TakesLeast {S} {A} cmp steps hs x ks = (h : InputHead S A) × (others : List (InputHead S A)) × (one : List (InputHead S A))
+    × IsPermutation hs (h ∷ others) × (h.item ≡ x)
     × All (λ k. is_lt (cmp k.item x) ≡ false) others × Begun steps h.rest h.place one × IsPermutation (one ++ others) ks

@@ -48,7 +48,8 @@ multiway_hint hints = (greatest_lower hints, fitting (sum_upper hints))
 
 -- The inputs behind the heads hs were asked for their hints, and the hint of the stream s is the one from these. It bounds what is to
 -- come where theirs do and the inputs ascend.
-pub record IsMultiwayHint {S A T : Type 0} (cmp : A → A → Ordering) (steps : S → Option A → S → Type 0) (left : S → Count) (hs : List (InputHead S A)) (ofs : T → Option A → T → Type 0) (s : T) (hint : Hint) : Type 0 where
+pub record IsMultiwayHint {S A T : Type 0} (cmp : A → A → Ordering) (steps : S → Option A → S → Type 0) (left : S → Count)
+    (hs : List (InputHead S A)) (ofs : T → Option A → T → Type 0) (s : T) (hint : Hint) : Type 0 where
   pub hints : List Hint
   pub asked : AllZip (λ h input. IsHint (left h.rest) input) hs hints
   pub is : hint ≡ multiway_hint hints

@@ -26,6 +26,7 @@ module _ {S A : Type 0} {cmp : A → A → Ordering} (o : IsTotalOrder cmp) (ste
         absurd (omega (arith, l, z));
   }
 
-  pub multi-goes_on : (hs ks : List (InputHead S A)) (r : Option A) → All (HeadAscends cmp steps) hs → multi_steps cmp steps hs r ks → All (HeadAscends cmp steps) ks
+  pub multi-goes_on : (hs ks : List (InputHead S A)) (r : Option A) → All (HeadAscends cmp steps) hs → multi_steps cmp steps hs r ks
+      → All (HeadAscends cmp steps) ks
   multi-goes_on hs ks None a e = subst (All (HeadAscends cmp steps)) (sym e.1) (All-nil (HeadAscends cmp steps))
   multi-goes_on hs ks (Some x) a e = (each-forward o steps e.0 x x hs ks e.1 (tied_itself o x) e.2 a).0

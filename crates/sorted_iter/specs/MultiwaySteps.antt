@@ -32,22 +32,28 @@ module _ {S A : Type 0} (cmp : A → A → Ordering) (steps : S → Option A →
 -- last is above all of m, and then no whole run gave m.
 abbrev pub IsPassed : {A : Type 0} → (A → A → Ordering) → List A → Bool → List A → Bool → Type 0
 IsPassed {A} cmp m whole l ended = (front : List A) × AllByRecursion (λ x. has cmp m x ≡ true) front
-    × (((ended ≡ true) × (l ≡ front)) ⊎ ((whole ≡ false) × (ended ≡ false) × (y : A) × (l ≡ front ++ y ∷ []) × AllByRecursion (λ x. cmp x y ≡ Less) m))
+    × (((ended ≡ true) × (l ≡ front)) ⊎ ((whole ≡ false) × (ended ≡ false) × (y : A) × (l ≡ front ++ y ∷ [])
+    × AllByRecursion (λ x. cmp x y ≡ Less) m))
 
 -- p is a run of a stream, and behind it stand the runs qs of its inputs: p is the front of their multiway union
-pub record IsMultiwayFront {S A T : Type 0} {steps : S → Option A → S → Type 0} {ofs : T → Option A → T → Type 0} (cmp : A → A → Ordering) (qs : List (Run steps)) (p : Run ofs) : Type 0 where
+pub record IsMultiwayFront {S A T : Type 0} {steps : S → Option A → S → Type 0} {ofs : T → Option A → T → Type 0} (cmp : A → A → Ordering)
+    (qs : List (Run steps)) (p : Run ofs) : Type 0 where
   pub ascends : IsStrictlySortedBy cmp p.items
   pub from_inputs : AllByRecursion (λ x. Any (λ q. Contains q.items x) qs) p.items
   pub passed : All (λ q. IsPassed cmp p.items p.whole q.items q.whole) qs
 
 -- behind each run of the stream s stand runs of its inputs
-pub record MultiRunsAre {S A T : Type 0} (cmp : A → A → Ordering) (ofs : T → Option A → T → Type 0) (s : T) (steps : S → Option A → S → Type 0) (its : List S) : Type 0 where
+pub record MultiRunsAre {S A T : Type 0} (cmp : A → A → Ordering) (ofs : T → Option A → T → Type 0) (s : T)
+    (steps : S → Option A → S → Type 0) (its : List S) : Type 0 where
   pub behind : EachRunFrom ofs s (λ p. (qs : List (Run steps)) × AllZip (λ it q. q.from ≡ it) its qs × IsMultiwayFront cmp qs p)
 
 -- the inputs its were asked for their first items, and hs are the heads of those that gave one
 abbrev pub Started : {S A : Type 0} → (S → Option A → S → Type 0) → List S → List (InputHead S A) → Type 0
-Started {S} {A} steps its hs = (ones : List (List (InputHead S A))) × AllZip (λ it one. (p : ℕ) × Begun steps it p one) its ones × (flat_map (λ one. one) ones ≡ hs)
+Started {S} {A} steps its hs = (ones : List (List (InputHead S A))) × AllZip (λ it one. (p : ℕ) × Begun steps it p one) its ones
+    × (flat_map (λ one. one) ones ≡ hs)
 
 -- where the lists that the inputs give are known, each whole run of the stream s gives a multiway union of them
-pub record MultiListsAre {S A T : Type 0} (cmp : A → A → Ordering) (ofs : T → Option A → T → Type 0) (s : T) (steps : S → Option A → S → Type 0) (its : List S) : Type 0 where
-  pub give : (ls : List (List A)) → AllZip (GivesList steps) its ls → EachRunFrom ofs s (λ p. p.whole ≡ true → IsMultiwayUnion cmp ls p.items)
+pub record MultiListsAre {S A T : Type 0} (cmp : A → A → Ordering) (ofs : T → Option A → T → Type 0) (s : T)
+    (steps : S → Option A → S → Type 0) (its : List S) : Type 0 where
+  pub give : (ls : List (List A)) → AllZip (GivesList steps) its ls
+      → EachRunFrom ofs s (λ p. p.whole ≡ true → IsMultiwayUnion cmp ls p.items)

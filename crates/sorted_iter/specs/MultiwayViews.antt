@@ -14,5 +14,6 @@ module _ {S A : Type 0} {i : iterators.Ghosts S A} {o : orders.Ghosts A} {e : eq
   union_heads s = s.heads.items
 
   -- one call of `next`
-  abbrev pub multiway_steps : (A → A → Ordering) → (S → Option A → S → Type 0) → MultiwayUnion S A i o e p → Option A → MultiwayUnion S A i o e p → Type 0
+  abbrev pub multiway_steps : (A → A → Ordering) → (S → Option A → S → Type 0) → MultiwayUnion S A i o e p → Option A
+      → MultiwayUnion S A i o e p → Type 0
   multiway_steps cmp steps s r t = multi_steps cmp steps (union_heads s) r (union_heads t)

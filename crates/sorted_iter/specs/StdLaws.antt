@@ -20,7 +20,8 @@ use Rattle.sorted_iter.specs.Orders.{Rests, InOrder, AtMostOne}
 use Rattle.sorted_iter.specs.Laws.{in_order-by_bound, over_rests}
 use Rattle.sorted_iter.specs.Sources.{in_order-of_rest}
 
-module _ {A : Type 0} {cmp : A → A → Ordering} (o : IsTotalOrder cmp) (gap : A → A → ℕ) (follows : A → A → Type 0) (up : (x y : A) → follows x y → cmp x y ≡ Less) where
+module _ {A : Type 0} {cmp : A → A → Ordering} (o : IsTotalOrder cmp) (gap : A → A → ℕ) (follows : A → A → Type 0)
+    (up : (x y : A) → follows x y → cmp x y ≡ Less) where
   pub range-in_order : (s : Range A) → InOrder cmp (range_steps gap follows) s
   range-in_order = in_order-by_bound cmp (range_steps gap follows) (λ b s. cmp b s.start ≡ Less) (λ s. gap s.start s.end ≡ 0)
       (λ s t x k. ap (λ z. cmp z t.start) k.1.1 ∙ up s.start t.start k.1.2)
@@ -36,11 +37,15 @@ module _ {A : Type 0} {cmp : A → A → Ordering} (o : IsTotalOrder cmp) (gap :
   begun_at s t h = begun (range_inclusive_exhausted s) (range_inclusive_start s) (range_inclusive_end s) (range_inclusive_left gap t) h
 
   pub range_inclusive-in_order : (s : RangeInclusive A) → InOrder cmp (range_inclusive_steps gap follows) s
-  range_inclusive-in_order = in_order-by_bound cmp (range_inclusive_steps gap follows) (λ b s. range_inclusive_exhausted s ≡ false → cmp b (range_inclusive_start s) ≡ Less) (λ s. range_inclusive_left gap s ≡ 0)
+  range_inclusive-in_order = in_order-by_bound cmp (range_inclusive_steps gap follows) (λ b s. range_inclusive_exhausted s ≡ false
+      → cmp b (range_inclusive_start s) ≡ Less) (λ s. range_inclusive_left gap s ≡ 0)
       (λ s t x k e. ap (λ z. cmp z (range_inclusive_start t)) k.1.0 ∙ up (range_inclusive_start s) (range_inclusive_start t) (k.1.2 e))
       (λ s t x b k h.
-      let l = h (begun_at s t k.1.1) in
-      (ap (cmp b) k.1.0 ∙ l, λ e. o.trans b (range_inclusive_start s) (range_inclusive_start t) l (up (range_inclusive_start s) (range_inclusive_start t) (k.1.2 e))))
+      let l = h (begun_at s t k.1.1) in (
+        ap (cmp b) k.1.0 ∙ l,
+        λ e. o.trans b (range_inclusive_start s) (range_inclusive_start t) l
+            (up (range_inclusive_start s) (range_inclusive_start t) (k.1.2 e)),
+      ))
       (λ s t k. ap (range_inclusive_left gap) k.1.1 ∙ k.1.0)
       (λ s t x k h. let l = k.1.1 in omega arith)
 
@@ -81,15 +86,20 @@ int_range_inclusive-in_order = range_inclusive-in_order int_cmp_total int_gap in
 -- ---- sets
 
 -- the keys of a `BTreeSet`, as references
-pub keys-in_order : {K : Type 0} (cmp : K → K → Ordering) (s : List K) → IsStrictlySortedBy cmp s → InOrder (λ x y. cmp x.now y.now) (TakesFirst (deref {X = K})) s
-keys-in_order {K} cmp s h = in_order-of_rest (λ x. x.now) (TakesFirst (deref {X = K})) (λ l. l) (λ l. l ≡ []) (λ l m x k. (k, λ z. let w : [] ≡ x.now ∷ m = sym z ∙ k in absurd cc)) (λ l m k. k.1) cmp s h
+pub keys-in_order : {K : Type 0} (cmp : K → K → Ordering) (s : List K) → IsStrictlySortedBy cmp s
+    → InOrder (λ x y. cmp x.now y.now) (TakesFirst (deref {X = K})) s
+keys-in_order {K} cmp s h = in_order-of_rest (λ x. x.now) (TakesFirst (deref {X = K})) (λ l. l) (λ l. l ≡ [])
+    (λ l m x k. (k, λ z. let w : [] ≡ x.now ∷ m = sym z ∙ k in absurd cc)) (λ l m k. k.1) cmp s h
 
 -- the items of an iterator that is seen as the list of what it has left
 module _ {A K : Type 0} (shows : A → K) where
-  pub shown-in_order : (cmp : K → K → Ordering) (s : List K) → IsStrictlySortedBy cmp s → InOrder (λ x y. cmp (shows x) (shows y)) (TakesFirst shows) s
-  shown-in_order cmp s h = in_order-of_rest shows (TakesFirst shows) (λ l. l) (λ l. l ≡ []) (λ l m x k. (k, λ z. let w : [] ≡ shows x ∷ m = sym z ∙ k in absurd cc)) (λ l m k. k.1) cmp s h
+  pub shown-in_order : (cmp : K → K → Ordering) (s : List K) → IsStrictlySortedBy cmp s
+      → InOrder (λ x y. cmp (shows x) (shows y)) (TakesFirst shows) s
+  shown-in_order cmp s h = in_order-of_rest shows (TakesFirst shows) (λ l. l) (λ l. l ≡ [])
+      (λ l m x k. (k, λ z. let w : [] ≡ shows x ∷ m = sym z ∙ k in absurd cc)) (λ l m k. k.1) cmp s h
 
-  pub shown-goes_on : (cmp : K → K → Ordering) (s t : List K) (r : Option A) → IsStrictlySortedBy cmp s → TakesFirst shows s r t → IsStrictlySortedBy cmp t
+  pub shown-goes_on : (cmp : K → K → Ordering) (s t : List K) (r : Option A) → IsStrictlySortedBy cmp s → TakesFirst shows s r t
+      → IsStrictlySortedBy cmp t
   shown-goes_on cmp s t None h e = subst (IsStrictlySortedBy cmp) (e.0 ∙ sym e.1) h
   shown-goes_on cmp s t (Some x) h e = ascends-back cmp (shows x ∷ []) t (subst (IsStrictlySortedBy cmp) e h)
 

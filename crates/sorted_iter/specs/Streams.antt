@@ -3,10 +3,10 @@ use Rattle.std.specs.Prelude.{true, false, Option}
 use Rattle.std.specs.declared.cmp.Ordering.{Ordering}
 use Rattle.ordered_lists.specs.Walks.{walk}
 use Rattle.sorted_iter.specs.declared.sides.Sides.{Sides}
-use Rattle.sorted_iter.specs.declared.union.Union.{Union}
-use Rattle.sorted_iter.specs.declared.intersection.Intersection.{Intersection}
-use Rattle.sorted_iter.specs.declared.difference.Difference.{Difference}
-use Rattle.sorted_iter.specs.declared.symmetric_difference.SymmetricDifference.{SymmetricDifference}
+use Rattle.sorted_iter.specs.declared.streams.Union.{Union}
+use Rattle.sorted_iter.specs.declared.streams.Intersection.{Intersection}
+use Rattle.sorted_iter.specs.declared.streams.Difference.{Difference}
+use Rattle.sorted_iter.specs.declared.streams.SymmetricDifference.{SymmetricDifference}
 use Rattle.sorted_iter.specs.declared.marks.AssumeSortedByItem.{AssumeSortedByItem}
 use Rattle.sorted_iter.specs.TwoSides.{StepsTwo}
 
@@ -34,7 +34,8 @@ module _ {S T A : Type 0} (cmp : A → A → Ordering) (firsts : S → Option A 
   difference_steps s r t = StepsTwo (walk cmp true false false) firsts seconds (difference_sides s) r (difference_sides t)
 
   abbrev pub symmetric_difference_steps : SymmetricDifference S T A A → Option A → SymmetricDifference S T A A → Type 0
-  symmetric_difference_steps s r t = StepsTwo (walk cmp true false true) firsts seconds (symmetric_difference_sides s) r (symmetric_difference_sides t)
+  symmetric_difference_steps s r t = StepsTwo (walk cmp true false true) firsts seconds (symmetric_difference_sides s) r
+      (symmetric_difference_sides t)
 
 -- the iterator inside
 abbrev pub assumed_source : {S : Type 0} → AssumeSortedByItem S → S

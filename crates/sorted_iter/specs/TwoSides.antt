@@ -14,13 +14,16 @@ module _ {S T A B : Type 0} where
 
   -- `next` may be called, and both sources end
   abbrev pub sides_can : (S → Type 0) → (S → Count) → (T → Type 0) → (T → Count) → Sides S T A B → Type 0
-  sides_can can left can' left' s = ahead_can can s.left × ahead_can can' s.right × IsFinite (ahead_left left s.left) × IsFinite (ahead_left left' s.right)
+  sides_can can left can' left' s = ahead_can can s.left × ahead_can can' s.right × IsFinite (ahead_left left s.left)
+      × IsFinite (ahead_left left' s.right)
 
   -- both sides ascend
-  abbrev pub sides_ascend : (A → A → Ordering) → (S → Option A → S → Type 0) → (B → B → Ordering) → (T → Option B → T → Type 0) → Sides S T A B → Type 0
+  abbrev pub sides_ascend : (A → A → Ordering) → (S → Option A → S → Type 0) → (B → B → Ordering) → (T → Option B → T → Type 0)
+      → Sides S T A B → Type 0
   sides_ascend cmp firsts cmp' seconds s = AheadAscends cmp firsts s.left × AheadAscends cmp' seconds s.right
 
-module _ {S T A B C : Type 0} (op : List A → List B → List C) (firsts : S → Option A → S → Type 0) (seconds : T → Option B → T → Type 0) where
+module _ {S T A B C : Type 0} (op : List A → List B → List C) (firsts : S → Option A → S → Type 0)
+    (seconds : T → Option B → T → Type 0) where
   -- calls of the stream led from s to t and gave zs: what its sources passed by then is us and vs, and whatever may follow,
   -- `op` of all that the sources give is zs and then `op` of what follows
   pub record Gives (s : Sides S T A B) (zs : List C) (t : Sides S T A B) : Type 0 where
@@ -40,10 +43,12 @@ module _ {S T A B C : Type 0} (op : List A → List B → List C) (firsts : S �
     pub ended : IfNone r (IsSpent t)
 
 -- one call of `next` leaves fewer items, and the stream may be called again
-pub record Nears {S T A B C : Type 0} (can : S → Type 0) (left : S → Count) (can' : T → Type 0) (left' : T → Count) (wants : Wants) (s : Sides S T A B) (r : Option C) (t : Sides S T A B) : Type 0 where
+pub record Nears {S T A B C : Type 0} (can : S → Type 0) (left : S → Count) (can' : T → Type 0) (left' : T → Count) (wants : Wants)
+    (s : Sides S T A B) (r : Option C) (t : Sides S T A B) : Type 0 where
   pub again : sides_can can left can' left' t
   pub left_falls : size (ahead_left left t.left) ≤ size (ahead_left left s.left)
   pub right_falls : size (ahead_left left' t.right) ≤ size (ahead_left left' s.right)
-  pub one_less : size (ahead_left left t.left) + size (ahead_left left' t.right) + option_len r ≤ size (ahead_left left s.left) + size (ahead_left left' s.right)
+  pub one_less : size (ahead_left left t.left) + size (ahead_left left' t.right) + option_len r
+      ≤ size (ahead_left left s.left) + size (ahead_left left' s.right)
   pub left_less : wants.right ≡ false → size (ahead_left left t.left) + option_len r ≤ size (ahead_left left s.left)
   pub right_less : wants.left ≡ false → size (ahead_left left' t.right) + option_len r ≤ size (ahead_left left' s.right)

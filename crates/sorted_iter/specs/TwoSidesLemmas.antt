@@ -26,28 +26,32 @@ module _ {U S A : Type 0} (inner : U → S) (steps : S → Option A → S → Ty
   pub through-in_order : (cmp : A → A → Ordering) (s : U) → InOrder cmp steps (inner s) → InOrder cmp Through s
   through-in_order cmp s h = record {
     ascends = λ xs t e. h.ascends xs (inner t) (through-yields xs s t e);
-    stays_ended = λ xs t n u x v e f g. h.stays_ended xs (inner t) n (inner u) x (inner v) (inner e.0, through-yields xs s e.0 e.1, e.2) (through-rests n t u f) g;
+    stays_ended = λ xs t n u x v e f g. h.stays_ended xs (inner t) n (inner u) x (inner v) (inner e.0, through-yields xs s e.0 e.1, e.2)
+        (through-rests n t u f) g;
   }
 
   pub through-always : (xs : List A) (s : U) → AlwaysYields steps (λ x. x) (inner s) xs → AlwaysYields Through (λ x. x) s xs
   through-always [] s h = λ x j k. h x (inner j) k
   through-always (x ∷ xs) s h = ((λ j k. h.0 (inner j) k), λ y j k. let m = h.1 y (inner j) k in (m.0, through-always xs j m.1))
 
-module _ {S T A B C : Type 0} (op : List A → List B → List C) (firsts : S → Option A → S → Type 0) (seconds : T → Option B → T → Type 0) where
+module _ {S T A B C : Type 0} (op : List A → List B → List C) (firsts : S → Option A → S → Type 0)
+    (seconds : T → Option B → T → Type 0) where
   abbrev Steps : Sides S T A B → Option C → Sides S T A B → Type 0
   Steps = StepsTwo op firsts seconds
 
   pub gives-none : (s : Sides S T A B) → Gives op firsts seconds s [] s
   gives-none s = record { us = []; vs = []; passed_left = passes-none s.left; passed_right = passes-none s.right; gave = λ xs ys i j. refl }
 
-  pub gives-append : {s t u : Sides S T A B} {zs ws : List C} → Gives op firsts seconds s zs t → Gives op firsts seconds t ws u → Gives op firsts seconds s (zs ++ ws) u
+  pub gives-append : {s t u : Sides S T A B} {zs ws : List C} → Gives op firsts seconds s zs t → Gives op firsts seconds t ws u
+      → Gives op firsts seconds s (zs ++ ws) u
   gives-append {zs = zs} {ws} a b = record {
     us = a.us ++ b.us;
     vs = a.vs ++ b.vs;
     passed_left = passes-append a.passed_left b.passed_left;
     passed_right = passes-append a.passed_right b.passed_right;
     gave = λ xs ys i j. ap₂ op (append_assoc a.us b.us xs) (append_assoc a.vs b.vs ys)
-        ∙ a.gave (b.us ++ xs) (b.vs ++ ys) (passes-follow b.passed_left i) (passes-follow b.passed_right j) ∙ ap (λ l. zs ++ l) (b.gave xs ys i j) ∙ sym (append_assoc zs ws (op xs ys));
+        ∙ a.gave (b.us ++ xs) (b.vs ++ ys) (passes-follow b.passed_left i) (passes-follow b.passed_right j) ∙ ap (λ l. zs ++ l)
+        (b.gave xs ys i j) ∙ sym (append_assoc zs ws (op xs ys));
   }
 
   pub yields-gives : (zs : List C) (s t : Sides S T A B) → Yields Steps s zs t → Gives op firsts seconds s zs t
@@ -62,21 +66,25 @@ module _ {S T A B C : Type 0} (op : List A → List B → List C) (firsts : S �
   spent-gives u v x h e =
       let i = held-follows v.left in
       let j = held-follows v.right in
-      let k : [] ≡ x ∷ op (pending v.left.head) (pending v.right.head) = sym (h _ _ (passes-follow e.went.passed_left i) (passes-follow e.went.passed_right j)) ∙ e.went.gave _ _ i j in
+      let k : [] ≡ x ∷ op (pending v.left.head) (pending v.right.head)
+      = sym (h _ _ (passes-follow e.went.passed_left i) (passes-follow e.went.passed_right j)) ∙ e.went.gave _ _ i j in
       absurd cc
 
   -- the law of a mark, from what `op` does to ascending lists
-  pub two-in_order : {R : A → A → Ordering} {Q : B → B → Ordering} {V : C → C → Ordering} → ((xs : List A) (ys : List B) → IsStrictlySortedBy R xs → IsStrictlySortedBy Q ys → IsStrictlySortedBy V (op xs ys))
+  pub two-in_order : {R : A → A → Ordering} {Q : B → B → Ordering} {V : C → C → Ordering}
+      → ((xs : List A) (ys : List B) → IsStrictlySortedBy R xs → IsStrictlySortedBy Q ys → IsStrictlySortedBy V (op xs ys))
       → (s : Sides S T A B) → AheadAscends R firsts s.left → AheadAscends Q seconds s.right → InOrder V Steps s
   two-in_order {R} {Q} {V} keeps s a b = record {
     ascends = λ zs t e.
         let m = yields-gives zs s t e in
-        ascends-front V zs _ (subst (IsStrictlySortedBy V) (m.gave _ _ (held-follows t.left) (held-follows t.right)) (keeps _ _ (a.ascends m.us t.left m.passed_left) (b.ascends m.vs t.right m.passed_right)));
+        ascends-front V zs _ (subst (IsStrictlySortedBy V) (m.gave _ _ (held-follows t.left) (held-follows t.right))
+        (keeps _ _ (a.ascends m.us t.left m.passed_left) (b.ascends m.vs t.right m.passed_right)));
     stays_ended = λ xs t n u x v e f g. spent-gives u v x (spent-rests n t u e.2.ended f) g;
   }
 
   -- what the stream gives, where what its sources give is known
-  pub two-always : (zs : List C) (s : Sides S T A B) (xs : List A) (ys : List B) → WillGive firsts s.left xs → WillGive seconds s.right ys → op xs ys ≡ zs → AlwaysYields Steps (λ x. x) s zs
+  pub two-always : (zs : List C) (s : Sides S T A B) (xs : List A) (ys : List B) → WillGive firsts s.left xs → WillGive seconds s.right ys
+      → op xs ys ≡ zs → AlwaysYields Steps (λ x. x) s zs
   two-always [] s xs ys a b e = λ x j k.
       let l = passes-will k.went.passed_left a in
       let r = passes-will k.went.passed_right b in
@@ -86,7 +94,8 @@ module _ {S T A B C : Type 0} (op : List A → List B → List C) (firsts : S �
     (λ j k.
         let l = passes-will k.went.passed_left a in
         let r = passes-will k.went.passed_right b in
-        let f : z ∷ zs ≡ [] = sym e ∙ ap₂ op l.1 r.1 ∙ k.went.gave l.0 r.0 (will-follow l.2) (will-follow r.2) ∙ k.ended l.0 r.0 (will-follow l.2) (will-follow r.2) in
+        let f : z ∷ zs ≡ [] = sym e ∙ ap₂ op l.1 r.1 ∙ k.went.gave l.0 r.0 (will-follow l.2) (will-follow r.2) ∙ k.ended l.0 r.0
+        (will-follow l.2) (will-follow r.2) in
         absurd cc),
     λ x j k.
         let l = passes-will k.went.passed_left a in

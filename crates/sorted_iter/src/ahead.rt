@@ -1,4 +1,5 @@
-//! A source of items in front of which one may be held: what the streams of two sources are built of.
+//! A source of items in front of which one may be held: what the streams of two sources are built
+//! of.
 ghost use Rattle.std.specs.Prelude.{◌≡◌, ℕ, IfOk, Option};
 ghost use Rattle.sorted_iter.specs.Copies.{IsHeadClone, IsAheadClone};
 ghost use Rattle.sorted_iter.specs.Hints.{IsHint, ahead_hint};
@@ -34,7 +35,8 @@ impl<T: Clone> Head<T> {
     }
 }
 
-/// A source in front of which an item may be held. Once the source has answered `None` it isn't asked again.
+/// A source in front of which an item may be held. Once the source has answered `None` it isn't
+/// asked again.
 #[derive(Drop)]
 pub struct Ahead<I: Iterator>
 where
@@ -96,7 +98,8 @@ where
         }
     }
 
-    /// Holds an item, which the next `take` gives, in place of one that is held. O(1), and takes no memory.
+    /// Holds an item, which the next `take` gives, in place of one that is held. O(1), and takes no
+    /// memory.
     #[inline(always)]
     pub fn put_back(&mut self, item: I::Item)
         ensures { PutsBack self.old item self.new }

@@ -141,7 +141,8 @@ pub(crate) fn copies_of_difference(
     Ok((fresh.collect(alloc)?, rest.collect(alloc)?))
 }
 
-/// The symmetric difference, and what is left of it after its first item, each by a copy of the stream.
+/// The symmetric difference, and what is left of it after its first item, each by a copy of the
+/// stream.
 pub(crate) fn copies_of_symmetric_difference(
     alloc: Global,
     a: &[u32],
@@ -158,7 +159,8 @@ pub(crate) fn copies_of_symmetric_difference(
     Ok((fresh.collect(alloc)?, rest.collect(alloc)?))
 }
 
-/// The pairs of a stream, and what is left of them after the first one, each by a copy of the stream.
+/// The pairs of a stream, and what is left of them after the first one, each by a copy of the
+/// stream.
 pub(crate) fn copies_of_pairs(
     alloc: Global,
     a: &[u32],

@@ -1,27 +1,23 @@
-//! Lazy set operations over streams whose items strictly ascend. A mark with laws says of an iterator that they do.
+//! Lazy set operations over streams whose items strictly ascend. A mark with laws says of an
+//! iterator that they do.
 #![tactic(auto)]
 
 mod adapter_marks;
 mod ahead;
-mod difference;
 mod hints;
-mod intersection;
 mod marks;
 mod multiway;
 mod pairs;
 mod sides;
 mod std_marks;
-mod symmetric_difference;
-mod union;
+mod streams;
 
-// Their fields are read by the contracts of the streams and by the proofs of crates above. The key joins of `sorted_pairs` are built
-// of these, of `Wants` and of the hints.
+// Their fields are read by the contracts of the streams and by the proofs of crates above. The key
+// joins of `sorted_pairs` are built of these, of `Wants` and of the hints.
 #[doc(hidden)]
 pub use crate::ahead::{Ahead, Head};
-pub use crate::difference::Difference;
 #[doc(hidden)]
 pub use crate::hints::{Hint, of_intersection, of_union};
-pub use crate::intersection::Intersection;
 pub use crate::marks::{
     AssumeSortedByItem, AssumeSortedByItemExt, OneOrLess, SortedByItem, SortedIterator,
 };
@@ -31,8 +27,7 @@ pub use crate::multiway::{MultiwayUnion, multiway_union};
 pub use crate::pairs::Pairs;
 #[doc(hidden)]
 pub use crate::sides::{Sides, Wants};
-pub use crate::symmetric_difference::SymmetricDifference;
-pub use crate::union::Union;
+pub use crate::streams::{Difference, Intersection, SymmetricDifference, Union};
 
 #[cfg(test)]
 mod callers;

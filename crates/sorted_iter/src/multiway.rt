@@ -16,10 +16,12 @@ mod tests;
 pub use heads::InputHead;
 pub use make::multiway_union;
 
-/// Each value that some input holds, once, ascending. It is made by [`multiway_union`](crate::multiway_union).
+/// Each value that some input holds, once, ascending. It is made by
+/// [`multiway_union`](crate::multiway_union).
 ///
-/// The inputs that have not ended stand in one vector, each with its next item in hand: a heap, in which no head is less than
-/// the one above it. `next` takes O(log k) comparisons for each of k inputs that it asks, and no memory.
+/// The inputs that have not ended stand in one vector, each with its next item in hand: a heap, in
+/// which no head is less than the one above it. `next` takes O(log k) comparisons for each of k
+/// inputs that it asks, and no memory.
 #[derive(Drop)]
 #[must_use = "a stream is lazy and does nothing until it is asked"]
 pub struct MultiwayUnion<I: Iterator>

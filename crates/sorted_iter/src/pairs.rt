@@ -7,8 +7,8 @@ use element_core::NoMemory;
 
 /// The items of a stream, each as a key with `()` beside it.
 ///
-/// It is made by [`pairs`](crate::SortedIterator::pairs), lazily: `next` asks the source once. Making and stepping it
-/// takes no memory.
+/// It is made by [`pairs`](crate::SortedIterator::pairs), lazily: `next` asks the source once.
+/// Making and stepping it takes no memory.
 #[derive(Debug, Drop)]
 #[must_use = "a stream is lazy and does nothing until it is asked"]
 pub struct Pairs<I> {
@@ -38,7 +38,8 @@ impl<I: Iterator> Iterator for Pairs<I> {
 }
 
 impl<I: Iterator> Pairs<I> {
-    /// A second stream from which the same is still to come. O(1), beside the clone of the source; refused where that is.
+    /// A second stream from which the same is still to come. O(1), beside the clone of the source;
+    /// refused where that is.
     pub fn try_clone(&self) -> Result<Self, NoMemory>
     where
         I: Clone,

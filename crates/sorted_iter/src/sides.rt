@@ -55,8 +55,8 @@ impl<I: Iterator, J: Iterator<Item = I::Item>> Sides<I, J>
 where
     I::Item: Ord + Drop,
 {
-    /// The next item of the walk that is wanted. It asks each source at most once for each item that it passes over,
-    /// and takes no memory of its own.
+    /// The next item of the walk that is wanted. It asks each source at most once for each item
+    /// that it passes over, and takes no memory of its own.
     #[inline(always)]
     pub fn next(&mut self, wants: Wants) -> Option<I::Item>
         requires { sides_can I.can_next I.remaining J.can_next J.remaining self.old }
@@ -101,7 +101,8 @@ where
 {
     // Clones of both sources, with clones of the items that are held in front of them.
     pub(crate) fn try_clone(&self) -> Result<Self, AllocError>
-        ensures { IfOk result (λ copy. IsAheadClone I.is_clone I.Item.is_clone self.now.left copy.left
+        ensures { IfOk result (λ copy. IsAheadClone I.is_clone I.Item.is_clone self.now.left
+            copy.left
             × IsAheadClone J.is_clone I.Item.is_clone self.now.right copy.right) }
     {
         let left = self.left.try_clone()?;

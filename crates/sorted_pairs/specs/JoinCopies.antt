@@ -38,9 +38,13 @@ module _ {K V W : Type 0} (eq : K → K → Bool) (clones : V → V → Type 0) 
 
 -- The join t is a copy of the join s, of which `sides` are the two sides: it may be called and is in order where s is. Where what is to
 -- come from the sides of s is known, what is to come from t is, item by item, a copy of what is to come from s.
-pub record IsJoinCopy {U S T K V W C : Type 0} (sides : U → Sides S T (K × V) (K × W)) (cmp : K → K → Ordering) (f : List (K × V) → List (K × W) → List C) (copies : C → C → Type 0) (can : S → Type 0) (left : S → Count) (firsts : S → Option (K × V) → S → Type 0)
-    (can' : T → Type 0) (left' : T → Count) (seconds : T → Option (K × W) → T → Type 0) (steps : U → Option C → U → Type 0) (s t : U) : Type 0 where
+pub record IsJoinCopy {U S T K V W C : Type 0} (sides : U → Sides S T (K × V) (K × W)) (cmp : K → K → Ordering)
+    (f : List (K × V) → List (K × W) → List C) (copies : C → C → Type 0) (can : S → Type 0) (left : S → Count) (firsts : S → Option (K × V)
+    → S → Type 0)
+    (can' : T → Type 0) (left' : T → Count) (seconds : T → Option (K × W) → T → Type 0) (steps : U → Option C → U → Type 0)
+    (s t : U) : Type 0 where
   pub callable : sides_can can left can' left' (sides s) → sides_can can left can' left' (sides t)
   pub in_order : keys_ascend cmp firsts seconds (sides s) → keys_ascend cmp firsts seconds (sides t)
-  pub lists : (xs : List (K × V)) (ys : List (K × W)) → WillGive firsts (sides s).left xs → WillGive seconds (sides s).right ys → IsStrictlySortedBy (by_key cmp) xs → IsStrictlySortedBy (by_key cmp) ys
+  pub lists : (xs : List (K × V)) (ys : List (K × W)) → WillGive firsts (sides s).left xs → WillGive seconds (sides s).right ys
+      → IsStrictlySortedBy (by_key cmp) xs → IsStrictlySortedBy (by_key cmp) ys
       → GivesList steps s (f xs ys) × ((zs : List C) × AllZip copies (f xs ys) zs × GivesList steps t zs)

@@ -18,12 +18,15 @@ right_hint a b = b
 
 -- The hint of a join s is made by `combine` of hints of its two sources, with the pairs that are held in front of these counted. Where
 -- what is to come from the sides is known, and both hints bound what is to come from the sources, it bounds what is to come from s.
-pub record IsJoinHint {U S T K V W C : Type 0} (sides : U → Sides S T (K × V) (K × W)) (cmp : K → K → Ordering) (f : List (K × V) → List (K × W) → List C) (combine : Hint → Hint → Hint) (left : S → Count) (firsts : S → Option (K × V) → S → Type 0)
+pub record IsJoinHint {U S T K V W C : Type 0} (sides : U → Sides S T (K × V) (K × W)) (cmp : K → K → Ordering)
+    (f : List (K × V) → List (K × W) → List C) (combine : Hint → Hint → Hint) (left : S → Count) (firsts : S → Option (K × V) → S → Type 0)
     (left' : T → Count) (seconds : T → Option (K × W) → T → Type 0) (s : U) (hint : Hint) : Type 0 where
   pub first : Hint
   pub second : Hint
   pub first_kept : IsHint (left (sides s).left.source) first
   pub second_kept : IsHint (left' (sides s).right.source) second
   pub is : hint ≡ combine (ahead_hint (sides s).left.head first) (ahead_hint (sides s).right.head second)
-  pub bounds : (xs : List (K × V)) (ys : List (K × W)) (v : WillGive firsts (sides s).left xs) (w : WillGive seconds (sides s).right ys) → IsStrictlySortedBy (by_key cmp) xs → IsStrictlySortedBy (by_key cmp) ys
-      → (is_ended (sides s).left.head ≡ false → Bounds first v.rest) → (is_ended (sides s).right.head ≡ false → Bounds second w.rest) → Bounds hint (f xs ys)
+  pub bounds : (xs : List (K × V)) (ys : List (K × W)) (v : WillGive firsts (sides s).left xs) (w : WillGive seconds (sides s).right ys)
+      → IsStrictlySortedBy (by_key cmp) xs → IsStrictlySortedBy (by_key cmp) ys
+      → (is_ended (sides s).left.head ≡ false → Bounds first v.rest) → (is_ended (sides s).right.head ≡ false → Bounds second w.rest)
+      → Bounds hint (f xs ys)

@@ -23,7 +23,8 @@ module _ {S T A B : Type 0} where
   abbrev pub outer_join_sides : OuterJoin S T A B → Sides S T A B
   outer_join_sides s = s.sides
 
-module _ {S T K V W : Type 0} (cmp : K → K → Ordering) (firsts : S → Option (K × V) → S → Type 0) (seconds : T → Option (K × W) → T → Type 0) where
+module _ {S T K V W : Type 0} (cmp : K → K → Ordering) (firsts : S → Option (K × V) → S → Type 0) (seconds : T → Option (K × W) → T
+    → Type 0) where
   -- the keys of both sides ascend
   abbrev pub keys_ascend : Sides S T (K × V) (K × W) → Type 0
   keys_ascend s = sides_ascend (by_key cmp) firsts (by_key cmp) seconds s

@@ -17,7 +17,8 @@ use Rattle.sorted_pairs.specs.declared.matching.EitherOrBoth.TheVariants.{Left, 
 use Rattle.sorted_pairs.specs.Matches.{across, matches, matches_from, read_all, item_of_both, item_of_left, item_of_right, item_of_either, join_walk, left_join_walk, right_join_walk, outer_join_walk}
 
 -- `by_order` of two things at once
-by_order₂ : {B C : Type 0} (P : B → C → Type 0) (r : Ordering) (a b c : B) (d e f : C) → (r ≡ Less → P a d) → (r ≡ Equal → P b e) → (r ≡ Greater → P c f) → P (match_ordering r a b c) (match_ordering r d e f)
+by_order₂ : {B C : Type 0} (P : B → C → Type 0) (r : Ordering) (a b c : B) (d e f : C) → (r ≡ Less → P a d) → (r ≡ Equal → P b e)
+    → (r ≡ Greater → P c f) → P (match_ordering r a b c) (match_ordering r d e f)
 by_order₂ P Less a b c d e f g h i = g refl
 by_order₂ P Equal a b c d e f g h i = h refl
 by_order₂ P Greater a b c d e f g h i = i refl
@@ -85,7 +86,8 @@ module _ {K : Type 0} {cmp : K → K → Ordering} (o : IsTotalOrder cmp) where
     left-skips y ys [] a = refl
     left-skips y ys (x ∷ xs) a = ap₂ (λ r l. (x.0, (x.1, r)) ∷ l) (passes y ys x.0 a.0) (left-skips y ys xs a.1)
 
-    left-from : (x : K × V) (xs : List (K × V)) → Ascends (x ∷ xs) → ((ys : List (K × W)) → Ascends ys → left_join_walk cmp xs ys ≡ left_join cmp xs ys)
+    left-from : (x : K × V) (xs : List (K × V)) → Ascends (x ∷ xs)
+        → ((ys : List (K × W)) → Ascends ys → left_join_walk cmp xs ys ≡ left_join cmp xs ys)
         → (ys : List (K × W)) → Ascends ys → left_join_walk cmp (x ∷ xs) ys ≡ left_join cmp (x ∷ xs) ys
     unfolding IsStrictlySortedBy
     left-from x xs s h [] t = left-alone (x ∷ xs)
@@ -105,7 +107,8 @@ module _ {K : Type 0} {cmp : K → K → Ordering} (o : IsTotalOrder cmp) where
     join-none [] = refl
     join-none (x ∷ xs) = join-none xs
 
-    join-from : (x : K × V) (xs : List (K × V)) → Ascends (x ∷ xs) → ((ys : List (K × W)) → Ascends ys → join_walk cmp xs ys ≡ join cmp xs ys)
+    join-from : (x : K × V) (xs : List (K × V)) → Ascends (x ∷ xs)
+        → ((ys : List (K × W)) → Ascends ys → join_walk cmp xs ys ≡ join cmp xs ys)
         → (ys : List (K × W)) → Ascends ys → join_walk cmp (x ∷ xs) ys ≡ join cmp (x ∷ xs) ys
     unfolding IsStrictlySortedBy
     join-from x xs s h [] t = join-none (x ∷ xs)
@@ -115,7 +118,8 @@ module _ {K : Type 0} {cmp : K → K → Ordering} (o : IsTotalOrder cmp) where
         let back = equal_back o x.0 y.0 k in
         ap (λ l. (x.0, (x.1, y.1)) ∷ l) (h ys t.1 ∙ ap having_both (sym (left-skips y ys xs (level y.0 x.0 xs back s.0))))
         ∙ ap (λ r. if_both x.0 x.1 r (join cmp xs (y ∷ ys))) (sym (meets y ys x.0 back)))
-        (λ k. let l = greater_less o x.0 y.0 k in join-from x xs s h ys t.1 ∙ ap having_both (sym (left-skips y ys (x ∷ xs) (l, below y.0 x.0 xs l s.0))))
+        (λ k. let l = greater_less o x.0 y.0 k in join-from x xs s h ys t.1 ∙ ap having_both
+        (sym (left-skips y ys (x ∷ xs) (l, below y.0 x.0 xs l s.0))))
 
     pub join-walk : (xs : List (K × V)) (ys : List (K × W)) → Ascends xs → Ascends ys → join_walk cmp xs ys ≡ join cmp xs ys
     unfolding IsStrictlySortedBy
@@ -132,16 +136,19 @@ module _ {K : Type 0} {cmp : K → K → Ordering} (o : IsTotalOrder cmp) where
     right-skips x xs [] a = refl
     right-skips x xs (y ∷ ys) a = ap₂ (λ r l. (y.0, (r, y.1)) ∷ l) (passes x xs y.0 a.0) (right-skips x xs ys a.1)
 
-    right-from : (x : K × V) (xs : List (K × V)) → Ascends (x ∷ xs) → ((ys : List (K × W)) → Ascends ys → right_join_walk cmp xs ys ≡ right_join cmp xs ys)
+    right-from : (x : K × V) (xs : List (K × V)) → Ascends (x ∷ xs)
+        → ((ys : List (K × W)) → Ascends ys → right_join_walk cmp xs ys ≡ right_join cmp xs ys)
         → (ys : List (K × W)) → Ascends ys → right_join_walk cmp (x ∷ xs) ys ≡ right_join cmp (x ∷ xs) ys
     unfolding IsStrictlySortedBy
     right-from x xs s h [] t = refl
     right-from x xs s h (y ∷ ys) t = by_order (λ l. read_all item_of_right l ≡ right_join cmp (x ∷ xs) (y ∷ ys)) (cmp x.0 y.0) _ _ _
         (λ k. h (y ∷ ys) t ∙ sym (right-skips x xs (y ∷ ys) (k, below x.0 y.0 ys k t.0)))
         (λ k. ap₂ (λ r l. (y.0, (r, y.1)) ∷ l) (sym (meets x xs y.0 k)) (h ys t.1 ∙ sym (right-skips x xs ys (level x.0 y.0 ys k t.0))))
-        (λ k. let l = greater_less o x.0 y.0 k in ap₂ (λ r m. (y.0, (r, y.1)) ∷ m) (sym (lacks y.0 (x ∷ xs) (l, below y.0 x.0 xs l s.0))) (right-from x xs s h ys t.1))
+        (λ k. let l = greater_less o x.0 y.0 k in ap₂ (λ r m. (y.0, (r, y.1)) ∷ m) (sym (lacks y.0 (x ∷ xs) (l, below y.0 x.0 xs l s.0)))
+        (right-from x xs s h ys t.1))
 
-    pub right_join-walk : (xs : List (K × V)) (ys : List (K × W)) → Ascends xs → Ascends ys → right_join_walk cmp xs ys ≡ right_join cmp xs ys
+    pub right_join-walk : (xs : List (K × V)) (ys : List (K × W)) → Ascends xs → Ascends ys
+        → right_join_walk cmp xs ys ≡ right_join cmp xs ys
     unfolding IsStrictlySortedBy
     right_join-walk [] ys s t = right-alone ys
     right_join-walk (x ∷ xs) ys s t = right-from x xs s (λ zs. right_join-walk xs zs s.1) ys t
@@ -152,23 +159,27 @@ module _ {K : Type 0} {cmp : K → K → Ordering} (o : IsTotalOrder cmp) where
     abbrev at : List (K × V) → List (K × W) → K → K × (Option V × Option W)
     at xs ys k = (k, (found cmp xs k, found cmp ys k))
 
-    skips-left : (x : K × V) (xs : List (K × V)) (ys : List (K × W)) (ks : List K) → AllByRecursion (λ k. cmp x.0 k ≡ Less) ks → map (at (x ∷ xs) ys) ks ≡ map (at xs ys) ks
+    skips-left : (x : K × V) (xs : List (K × V)) (ys : List (K × W)) (ks : List K) → AllByRecursion (λ k. cmp x.0 k ≡ Less) ks
+        → map (at (x ∷ xs) ys) ks ≡ map (at xs ys) ks
     skips-left x xs ys [] a = refl
     skips-left x xs ys (k ∷ ks) a = ap₂ (λ r l. (k, (r, found cmp ys k)) ∷ l) (passes x xs k a.0) (skips-left x xs ys ks a.1)
 
-    skips-right : (y : K × W) (ys : List (K × W)) (xs : List (K × V)) (ks : List K) → AllByRecursion (λ k. cmp y.0 k ≡ Less) ks → map (at xs (y ∷ ys)) ks ≡ map (at xs ys) ks
+    skips-right : (y : K × W) (ys : List (K × W)) (xs : List (K × V)) (ks : List K) → AllByRecursion (λ k. cmp y.0 k ≡ Less) ks
+        → map (at xs (y ∷ ys)) ks ≡ map (at xs ys) ks
     skips-right y ys xs [] a = refl
     skips-right y ys xs (k ∷ ks) a = ap₂ (λ r l. (k, (found cmp xs k, r)) ∷ l) (passes y ys k a.0) (skips-right y ys xs ks a.1)
 
     outer-left : (xs : List (K × V)) → Ascends xs → read_all (item_of_either {W = W}) (map Left xs) ≡ map (at xs []) (keys xs)
     unfolding IsStrictlySortedBy
     outer-left [] s = refl
-    outer-left (x ∷ xs) s = ap₂ (λ r l. (x.0, (r, None)) ∷ l) (sym (meets x xs x.0 (tied_itself o x.0))) (outer-left xs s.1 ∙ sym (skips-left x xs [] (keys xs) (all_keys x.0 xs s.0)))
+    outer-left (x ∷ xs) s = ap₂ (λ r l. (x.0, (r, None)) ∷ l) (sym (meets x xs x.0 (tied_itself o x.0)))
+        (outer-left xs s.1 ∙ sym (skips-left x xs [] (keys xs) (all_keys x.0 xs s.0)))
 
     outer-right : (ys : List (K × W)) → Ascends ys → read_all (item_of_either {V = V}) (map Right ys) ≡ map (at [] ys) (keys ys)
     unfolding IsStrictlySortedBy
     outer-right [] s = refl
-    outer-right (y ∷ ys) s = ap₂ (λ r l. (y.0, (None, r)) ∷ l) (sym (meets y ys y.0 (tied_itself o y.0))) (outer-right ys s.1 ∙ sym (skips-right y ys [] (keys ys) (all_keys y.0 ys s.0)))
+    outer-right (y ∷ ys) s = ap₂ (λ r l. (y.0, (None, r)) ∷ l) (sym (meets y ys y.0 (tied_itself o y.0)))
+        (outer-right ys s.1 ∙ sym (skips-right y ys [] (keys ys) (all_keys y.0 ys s.0)))
 
     -- the keys of the walk
     abbrev both_keys : List (K × V) → List (K × W) → List K
@@ -177,10 +188,13 @@ module _ {K : Type 0} {cmp : K → K → Ordering} (o : IsTotalOrder cmp) where
     abbrev outer_by_walk : List (K × V) → List (K × W) → List (K × (Option V × Option W))
     outer_by_walk xs ys = map (at xs ys) (both_keys xs ys)
 
-    keys-below : (xs : List (K × V)) (ys : List (K × W)) (k : K) (ks : List K) → Ascends xs → Ascends ys → both_keys xs ys ≡ k ∷ ks → AllByRecursion (λ j. cmp k j ≡ Less) ks
-    keys-below xs ys k ks s t e = first-below k ks (both_keys xs ys) (ascends-walk o true true true (keys xs) (keys ys) (keys_ascend cmp xs s) (keys_ascend cmp ys t)) e
+    keys-below : (xs : List (K × V)) (ys : List (K × W)) (k : K) (ks : List K) → Ascends xs → Ascends ys → both_keys xs ys ≡ k ∷ ks
+        → AllByRecursion (λ j. cmp k j ≡ Less) ks
+    keys-below xs ys k ks s t e = first-below k ks (both_keys xs ys)
+        (ascends-walk o true true true (keys xs) (keys ys) (keys_ascend cmp xs s) (keys_ascend cmp ys t)) e
 
-    outer-from : (x : K × V) (xs : List (K × V)) → Ascends (x ∷ xs) → ((ys : List (K × W)) → Ascends ys → outer_join_walk cmp xs ys ≡ outer_by_walk xs ys)
+    outer-from : (x : K × V) (xs : List (K × V)) → Ascends (x ∷ xs)
+        → ((ys : List (K × W)) → Ascends ys → outer_join_walk cmp xs ys ≡ outer_by_walk xs ys)
         → (ys : List (K × W)) → Ascends ys → outer_join_walk cmp (x ∷ xs) ys ≡ outer_by_walk (x ∷ xs) ys
     unfolding IsStrictlySortedBy
     outer-from x xs s h [] t = outer-left (x ∷ xs) s
@@ -189,7 +203,8 @@ module _ {K : Type 0} {cmp : K → K → Ordering} (o : IsTotalOrder cmp) where
         by_order₂ (λ l ks. read_all item_of_either l ≡ map (at (x ∷ xs) (y ∷ ys)) ks) (cmp x.0 y.0) _ _ _ _ _ _
         (λ k.
         let ks = both_keys xs (y ∷ ys) in
-        ap₂ (λ r l. (x.0, r) ∷ l) (ap₂ (λ a b. (a, b)) (sym (meets x xs x.0 (tied_itself o x.0))) (sym (lacks x.0 (y ∷ ys) (k, below x.0 y.0 ys k t.0))))
+        ap₂ (λ r l. (x.0, r) ∷ l) (ap₂ (λ a b. (a, b)) (sym (meets x xs x.0 (tied_itself o x.0)))
+        (sym (lacks x.0 (y ∷ ys) (k, below x.0 y.0 ys k t.0))))
         (h (y ∷ ys) t ∙ sym (skips-left x xs (y ∷ ys) ks (above x.0 ks s t (rw k refl)))))
         (λ k.
         let back = equal_back o x.0 y.0 k in
@@ -201,7 +216,8 @@ module _ {K : Type 0} {cmp : K → K → Ordering} (o : IsTotalOrder cmp) where
         (λ k.
         let l = greater_less o x.0 y.0 k in
         let ks = both_keys (x ∷ xs) ys in
-        ap₂ (λ r m. (y.0, r) ∷ m) (ap₂ (λ a b. (a, b)) (sym (lacks y.0 (x ∷ xs) (l, below y.0 x.0 xs l s.0))) (sym (meets y ys y.0 (tied_itself o y.0))))
+        ap₂ (λ r m. (y.0, r) ∷ m) (ap₂ (λ a b. (a, b)) (sym (lacks y.0 (x ∷ xs) (l, below y.0 x.0 xs l s.0)))
+        (sym (meets y ys y.0 (tied_itself o y.0))))
         (outer-from x xs s h ys t.1 ∙ sym (skips-right y ys (x ∷ xs) ks (above y.0 ks s t (rw k refl)))))
 
     outer-walk : (xs : List (K × V)) (ys : List (K × W)) → Ascends xs → Ascends ys → outer_join_walk cmp xs ys ≡ outer_by_walk xs ys
@@ -209,8 +225,10 @@ module _ {K : Type 0} {cmp : K → K → Ordering} (o : IsTotalOrder cmp) where
     outer-walk [] ys s t = outer-right ys t
     outer-walk (x ∷ xs) ys s t = outer-from x xs s (λ zs. outer-walk xs zs s.1) ys t
 
-    pub outer_join-walk : (xs : List (K × V)) (ys : List (K × W)) → Ascends xs → Ascends ys → outer_join_walk cmp xs ys ≡ outer_join cmp xs ys
-    outer_join-walk xs ys s t = outer-walk xs ys s t ∙ ap (map (at xs ys)) (walk-union o (keys xs) (keys ys) (keys_ascend cmp xs s) (keys_ascend cmp ys t))
+    pub outer_join-walk : (xs : List (K × V)) (ys : List (K × W)) → Ascends xs → Ascends ys
+        → outer_join_walk cmp xs ys ≡ outer_join cmp xs ys
+    outer_join-walk xs ys s t = outer-walk xs ys s t ∙ ap (map (at xs ys))
+        (walk-union o (keys xs) (keys ys) (keys_ascend cmp xs s) (keys_ascend cmp ys t))
 
     -- ---- the joins ascend
 
@@ -222,7 +240,8 @@ module _ {K : Type 0} {cmp : K → K → Ordering} (o : IsTotalOrder cmp) where
 
     pub outer_join-ascends : (xs : List (K × V)) (ys : List (K × W)) → Ascends xs → Ascends ys → Ascends (outer_join cmp xs ys)
     outer_join-ascends xs ys s t =
-        pairs_ascend cmp _ (subst (IsStrictlySortedBy cmp) (sym (same-keys (λ k. (found cmp xs k, found cmp ys k)) _)) (ascends-union o (keys xs) (keys ys) (keys_ascend cmp xs s) (keys_ascend cmp ys t)))
+        pairs_ascend cmp _ (subst (IsStrictlySortedBy cmp) (sym (same-keys (λ k. (found cmp xs k, found cmp ys k)) _))
+        (ascends-union o (keys xs) (keys ys) (keys_ascend cmp xs s) (keys_ascend cmp ys t)))
 
     all-having : (k : K) (ps : List (K × (V × Option W))) → Above k ps → Above k (having_both ps)
     all-having k [] a = tt

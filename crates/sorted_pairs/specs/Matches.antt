@@ -16,7 +16,8 @@ module _ {A B : Type 0} (cmp : A → B → Ordering) (left both right : Bool) wh
   -- the walk with x in hand and then xs on the left, where `on` is the walk of xs
   abbrev pub matches_from : A → List A → (List B → List (EitherOrBoth A B)) → List B → List (EitherOrBoth A B)
   matches_from x xs on [] = if left then map Left (x ∷ xs) else []
-  matches_from x xs on (y ∷ ys) = match_ordering (cmp x y) (keep left (Left x) (on (y ∷ ys))) (keep both (Both x y) (on ys)) (keep right (Right y) (matches_from x xs on ys))
+  matches_from x xs on (y ∷ ys) = match_ordering (cmp x y) (keep left (Left x) (on (y ∷ ys))) (keep both (Both x y) (on ys))
+      (keep right (Right y) (matches_from x xs on ys))
 
   abbrev pub matches : List A → List B → List (EitherOrBoth A B)
   matches [] ys = if right then map Right ys else []

@@ -23,21 +23,28 @@ use Rattle.sorted_pairs.specs.declared.assumed.AssumeSortedByKey.{AssumeSortedBy
 use Rattle.sorted_pairs.specs.AssumedStreams.{assumed_source, assumed_steps}
 
 -- `iter().copied()` of a slice of pairs, handed to `assume_sorted_by_key`
-pub clones-of_listed : {X : Type 0} (can : AssumeSortedByKey (Copied (Iter X)) → Type 0) (left : AssumeSortedByKey (Copied (Iter X)) → Count) → ((s t : AssumeSortedByKey (Copied (Iter X))) → can s → can t)
+pub clones-of_listed : {X : Type 0} (can : AssumeSortedByKey (Copied (Iter X)) → Type 0) (left : AssumeSortedByKey (Copied (Iter X))
+    → Count) → ((s t : AssumeSortedByKey (Copied (Iter X))) → can s → can t)
     → ((s t : AssumeSortedByKey (Copied (Iter X))) → IsFinite (left s) → IsFinite (left t))
-    → ClonesGoAlike (λ s t. iter_rest (copied_source (assumed_source t)) ≡ iter_rest (copied_source (assumed_source s))) can left (assumed_steps (copied_steps (iter_steps {A = X})))
+    → ClonesGoAlike (λ s t. iter_rest (copied_source (assumed_source t)) ≡ iter_rest (copied_source (assumed_source s))) can left
+    (assumed_steps (copied_steps (iter_steps {A = X})))
 clones-of_listed = clones-of_slice (λ s. copied_source (assumed_source s))
 
 -- `iter().copied()` of a slice of pairs
-pub InOrder-from_copied_pairs : {K V : Type 0} (cmp : K → K → Ordering) (it : Copied (Iter (K × V))) (ps : List (K × V)) → iter_rest (copied_source it) ≡ ps → IsStrictlySortedBy (by_key cmp) ps → InOrder (by_key cmp) (copied_steps (iter_steps {A = K × V})) it
+pub InOrder-from_copied_pairs : {K V : Type 0} (cmp : K → K → Ordering) (it : Copied (Iter (K × V))) (ps : List (K × V))
+    → iter_rest (copied_source it) ≡ ps → IsStrictlySortedBy (by_key cmp) ps
+    → InOrder (by_key cmp) (copied_steps (iter_steps {A = K × V})) it
 InOrder-from_copied_pairs cmp it ps e h = InOrder-from_copied (by_key cmp) it ps e h
 
 -- `into_iter` of a vector of pairs
-pub InOrder-from_pairs : {K V Z : Type 0} (cmp : K → K → Ordering) (it : IntoIter (K × V) Z) (ps : List (K × V)) → into_iter_items it ≡ ps → IsStrictlySortedBy (by_key cmp) ps → InOrder (by_key cmp) (into_iter_steps {X = K × V} {Z = Z}) it
+pub InOrder-from_pairs : {K V Z : Type 0} (cmp : K → K → Ordering) (it : IntoIter (K × V) Z) (ps : List (K × V)) → into_iter_items it ≡ ps
+    → IsStrictlySortedBy (by_key cmp) ps → InOrder (by_key cmp) (into_iter_steps {X = K × V} {Z = Z}) it
 InOrder-from_pairs cmp it ps e h = InOrder-from_into_iter (by_key cmp) it ps e h
 
 -- pairs that stand next to each other in a map whose keys ascend, as those of `range` of a `BTreeMap`
-pub run-ascends : {K V : Type 0} (cmp : K → K → Ordering) (all ps : List (K × V)) → (i : ℕ) × (n : ℕ) × (ps ≡ take n (drop i all)) → IsStrictlySortedBy cmp (keys all) → IsStrictlySortedBy cmp (keys ps)
-run-ascends cmp all ps r h = keys_ascend cmp ps (subst (IsStrictlySortedBy (by_key cmp)) (sym r.2) (take_ascends (by_key cmp) r.1 (drop r.0 all) (drop_ascends (by_key cmp) r.0 all (pairs_ascend cmp all h))))
+pub run-ascends : {K V : Type 0} (cmp : K → K → Ordering) (all ps : List (K × V)) → (i : ℕ) × (n : ℕ) × (ps ≡ take n (drop i all))
+    → IsStrictlySortedBy cmp (keys all) → IsStrictlySortedBy cmp (keys ps)
+run-ascends cmp all ps r h = keys_ascend cmp ps (subst (IsStrictlySortedBy (by_key cmp)) (sym r.2)
+    (take_ascends (by_key cmp) r.1 (drop r.0 all) (drop_ascends (by_key cmp) r.0 all (pairs_ascend cmp all h))))
 
 pub ruleset sources = (InOrder-from_copied_pairs, InOrder-from_pairs)

@@ -23,7 +23,8 @@ where
     ghost goes_on = { λ s t r h e. I.goes_on (pairs_source s) (pairs_source t) _ h e };
 }
 
-// `Zip` alone doesn't say that it stays ended, and fused it does. What stands on the right doesn't matter then.
+// `Zip` alone doesn't say that it stays ended, and fused it does. What stands on the right doesn't
+// matter then.
 impl<I: SortedByItem, J: Iterator> SortedByKey<I::Item, J::Item> for Fuse<Zip<I, J>>
 where
     I::Item: Ord + Drop,

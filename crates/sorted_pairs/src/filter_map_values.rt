@@ -8,11 +8,12 @@ ghost use Rattle.sorted_pairs.specs.ValueStreams.{filter_map_values_source, filt
 
 use crate::marks::SortedByKey;
 
-/// The pairs of a stream on whose values a function answers `Some`, with the answers in place of the values.
+/// The pairs of a stream on whose values a function answers `Some`, with the answers in place of
+/// the values.
 ///
-/// It is made by [`filter_map_values`](crate::SortedPairIterator::filter_map_values), lazily: `next` takes pairs and calls
-/// the function once on the value of each, up to the first answer that is `Some`. It takes no memory, beside what the
-/// function takes.
+/// It is made by [`filter_map_values`](crate::SortedPairIterator::filter_map_values), lazily:
+/// `next` takes pairs and calls the function once on the value of each, up to the first answer that
+/// is `Some`. It takes no memory, beside what the function takes.
 #[derive(Debug, Drop)]
 #[must_use = "a stream is lazy and does nothing until it is asked"]
 pub struct FilterMapValues<I, F> {

@@ -18,10 +18,11 @@ use crate::matching::{EitherOrBoth, next_match};
 use element_core::NoMemory;
 use sorted_iter::{Sides, Wants, of_intersection};
 
-/// The pairs of both streams that have equal keys, in the order of their keys; of two equal keys the left one.
+/// The pairs of both streams that have equal keys, in the order of their keys; of two equal keys
+/// the left one.
 ///
-/// It is made by [`join`](crate::SortedPairIterator::join), lazily: `next` asks each stream at most once for each pair
-/// that it passes over. Making and stepping it takes no memory.
+/// It is made by [`join`](crate::SortedPairIterator::join), lazily: `next` asks each stream at most
+/// once for each pair that it passes over. Making and stepping it takes no memory.
 #[derive(Drop)]
 #[must_use = "a stream is lazy and does nothing until it is asked"]
 pub struct Join<I: Iterator, J: Iterator>
@@ -63,9 +64,11 @@ impl<
     }
 
     fn size_hint(&self) -> (usize, Option<usize>)
-        ensures lower { IsWithinCount result.0 (count_min (ahead_left I.remaining (join_sides self.now).left)
+        ensures lower { IsWithinCount result.0
+            (count_min (ahead_left I.remaining (join_sides self.now).left)
             (ahead_left J.remaining (join_sides self.now).right)) }
-        ensures upper { IfSome result.1 (UpTo (count_min (ahead_left I.remaining (join_sides self.now).left)
+        ensures upper { IfSome result.1 (UpTo
+            (count_min (ahead_left I.remaining (join_sides self.now).left)
             (ahead_left J.remaining (join_sides self.now).right))) }
         ensures table { IsJoinHint join_sides K.cmp (join K.cmp) intersection_hint
             I.remaining I.next_gives J.remaining J.next_gives self.now result }
@@ -95,9 +98,10 @@ impl<K: Ord + Drop, V: Drop, W: Drop, I: Iterator<Item = (K, V)>, J: Iterator<It
     I,
     J,
 > {
-    /// A second stream that goes on alike: its keys are equal to those that are to come from this one, and its values are the
-    /// same, or clones where they were read ahead. O(1), beside the clones of both streams and of the pairs that were read
-    /// ahead. It is refused where one of these clones is.
+    /// A second stream that goes on alike: its keys are equal to those that are to come from this
+    /// one, and its values are the same, or clones where they were read ahead. O(1), beside the
+    /// clones of both streams and of the pairs that were read ahead. It is refused where one of
+    /// these clones is.
     pub fn try_clone(&self) -> Result<Self, NoMemory>
     where
         I: Clone,

@@ -10,8 +10,8 @@ use sorted_iter::SortedByItem;
 
 /// The keys of a stream of pairs.
 ///
-/// It is made by [`keys`](crate::SortedPairIterator::keys), lazily: `next` and `next_back` take one pair from their end.
-/// Making and stepping it takes no memory.
+/// It is made by [`keys`](crate::SortedPairIterator::keys), lazily: `next` and `next_back` take one
+/// pair from their end. Making and stepping it takes no memory.
 #[derive(Debug, Drop)]
 #[must_use = "a stream is lazy and does nothing until it is asked"]
 pub struct Keys<I> {
@@ -67,7 +67,8 @@ impl<K: Ord, V: Drop, I: Iterator<Item = (K, V)> + SortedByKey<K, V>> SortedByIt
 }
 
 impl<K, V: Drop, I: Iterator<Item = (K, V)>> Keys<I> {
-    /// A second stream from which the same is still to come. O(1), beside the clone of the source; refused where that is.
+    /// A second stream from which the same is still to come. O(1), beside the clone of the source;
+    /// refused where that is.
     pub fn try_clone(&self) -> Result<Self, NoMemory>
     where
         I: Clone,

@@ -19,8 +19,8 @@ use sorted_iter::{Sides, Wants};
 
 /// Each pair of the left stream, with the value of the right one at its key, if any.
 ///
-/// It is made by [`left_join`](crate::SortedPairIterator::left_join), lazily: `next` asks each stream at most once for each pair
-/// that it passes over. Making and stepping it takes no memory.
+/// It is made by [`left_join`](crate::SortedPairIterator::left_join), lazily: `next` asks each
+/// stream at most once for each pair that it passes over. Making and stepping it takes no memory.
 #[derive(Drop)]
 #[must_use = "a stream is lazy and does nothing until it is asked"]
 pub struct LeftJoin<I: Iterator, J: Iterator>
@@ -62,8 +62,10 @@ impl<
     }
 
     fn size_hint(&self) -> (usize, Option<usize>)
-        ensures lower { IsWithinCount result.0 (ahead_left I.remaining (left_join_sides self.now).left) }
-        ensures upper { IfSome result.1 (UpTo (ahead_left I.remaining (left_join_sides self.now).left)) }
+        ensures lower { IsWithinCount result.0
+            (ahead_left I.remaining (left_join_sides self.now).left) }
+        ensures upper { IfSome result.1 (UpTo
+            (ahead_left I.remaining (left_join_sides self.now).left)) }
         ensures table { IsJoinHint left_join_sides K.cmp (left_join K.cmp) left_hint
             I.remaining I.next_gives J.remaining J.next_gives self.now result }
     {
@@ -82,9 +84,11 @@ impl<
 
     fn mark(&self) {}
 
-    ghost sorted = { λ s h. left_join-in_order K.total I.next_gives J.next_gives left_join_sides s h };
+    ghost sorted = { λ s h. left_join-in_order K.total I.next_gives J.next_gives left_join_sides
+        s h };
 
-    ghost goes_on = { λ s t r h e. joined-goes_on K.cmp (left_join_walk K.cmp) I.next_gives J.next_gives
+    ghost goes_on = { λ s t r h e. joined-goes_on K.cmp (left_join_walk K.cmp) I.next_gives
+        J.next_gives
         left_join_sides s t r h e };
 }
 
@@ -95,9 +99,10 @@ impl<
     I: Iterator<Item = (K, V)>,
     J: Iterator<Item = (K, W)>,
 > LeftJoin<I, J> {
-    /// A second stream that goes on alike: its keys are equal to those that are to come from this one, and its values are the
-    /// same, or clones where they were read ahead. O(1), beside the clones of both streams and of the pairs that were read
-    /// ahead. It is refused where one of these clones is.
+    /// A second stream that goes on alike: its keys are equal to those that are to come from this
+    /// one, and its values are the same, or clones where they were read ahead. O(1), beside the
+    /// clones of both streams and of the pairs that were read ahead. It is refused where one of
+    /// these clones is.
     pub fn try_clone(&self) -> Result<Self, NoMemory>
     where
         I: Clone,

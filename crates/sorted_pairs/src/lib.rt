@@ -1,4 +1,5 @@
-//! Streams of pairs whose keys strictly ascend: their joins by key, their keys, and their values by a function.
+//! Streams of pairs whose keys strictly ascend: their joins by key, their keys, and their values by
+//! a function.
 #![tactic(auto)]
 
 mod adapter_marks;

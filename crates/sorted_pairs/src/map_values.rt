@@ -7,8 +7,9 @@ use crate::marks::SortedByKey;
 
 /// The pairs of a stream, each with the answer of a function in place of its value.
 ///
-/// It is made by [`map_values`](crate::SortedPairIterator::map_values), lazily: `next` and `next_back` take one pair from
-/// their end and call the function once on its value. They take no memory, beside what the function takes.
+/// It is made by [`map_values`](crate::SortedPairIterator::map_values), lazily: `next` and
+/// `next_back` take one pair from their end and call the function once on its value. They take no
+/// memory, beside what the function takes.
 #[derive(Debug, Drop)]
 #[must_use = "a stream is lazy and does nothing until it is asked"]
 pub struct MapValues<I, F> {

@@ -34,8 +34,8 @@ pub trait SortedByKey<K: Ord, V>: Iterator<Item = (K, V)> {
         → in_order t };
 }
 
-/// The joins of streams of pairs in the order of their keys, and what else such streams can do. Every iterator with the
-/// mark [`SortedByKey`] has them.
+/// The joins of streams of pairs in the order of their keys, and what else such streams can do.
+/// Every iterator with the mark [`SortedByKey`] has them.
 ///
 /// Each call answers a lazy stream in O(1). None takes memory.
 pub trait SortedPairIterator<K: Ord, V>: SortedByKey<K, V> + Sized {
@@ -60,7 +60,8 @@ pub trait SortedPairIterator<K: Ord, V>: SortedByKey<K, V> + Sized {
         }
     }
 
-    /// `(key, (v, w))` for each pair `(key, v)` of this stream, where `w` is the value of `that` at the key, or `None`.
+    /// `(key, (v, w))` for each pair `(key, v)` of this stream, where `w` is the value of `that` at
+    /// the key, or `None`.
     final fn left_join<W: Drop, J: SortedPairIterator<K, W>>(self, that: J) -> LeftJoin<Self, J>
     where
         K: Drop,
@@ -82,8 +83,8 @@ pub trait SortedPairIterator<K: Ord, V>: SortedByKey<K, V> + Sized {
         }
     }
 
-    /// `(key, (v, w))` for each pair `(key, w)` of `that`, where `v` is the value of this stream at the key, or `None`. The
-    /// key is that of `that`.
+    /// `(key, (v, w))` for each pair `(key, w)` of `that`, where `v` is the value of this stream at
+    /// the key, or `None`. The key is that of `that`.
     final fn right_join<W: Drop, J: SortedPairIterator<K, W>>(self, that: J) -> RightJoin<Self, J>
     where
         K: Drop,
@@ -105,8 +106,8 @@ pub trait SortedPairIterator<K: Ord, V>: SortedByKey<K, V> + Sized {
         }
     }
 
-    /// `(key, (v, w))` for each key of either stream, with the value of each at the key, or `None`. Where both have the key
-    /// it is the left one.
+    /// `(key, (v, w))` for each key of either stream, with the value of each at the key, or `None`.
+    /// Where both have the key it is the left one.
     final fn outer_join<W: Drop, J: SortedPairIterator<K, W>>(self, that: J) -> OuterJoin<Self, J>
     where
         K: Drop,
@@ -128,8 +129,8 @@ pub trait SortedPairIterator<K: Ord, V>: SortedByKey<K, V> + Sized {
         }
     }
 
-    /// Each key with what `f` answers on its value. `f` is called once on the value of each pair that is taken, in the order
-    /// in which they are taken, from whichever end.
+    /// Each key with what `f` answers on its value. `f` is called once on the value of each pair
+    /// that is taken, in the order in which they are taken, from whichever end.
     final fn map_values<W, F: FnMut(V) -> W>(self, f: F) -> MapValues<Self, F>
     where
         ensures source { map_values_source result ≡ self }
@@ -139,8 +140,8 @@ pub trait SortedPairIterator<K: Ord, V>: SortedByKey<K, V> + Sized {
         MapValues { source: self, f }
     }
 
-    /// Each key on whose value `f` answers `Some(w)`, with w. `f` is called once on the value of each pair that is taken, in
-    /// order; those on which it answers `None` are passed over.
+    /// Each key on whose value `f` answers `Some(w)`, with w. `f` is called once on the value of
+    /// each pair that is taken, in order; those on which it answers `None` are passed over.
     final fn filter_map_values<W, F: FnMut(V) -> Option<W>>(self, f: F) -> FilterMapValues<Self, F>
     where
         ensures source { filter_map_values_source result ≡ self }

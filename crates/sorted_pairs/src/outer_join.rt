@@ -18,10 +18,11 @@ use crate::matching::{EitherOrBoth, next_match};
 use element_core::NoMemory;
 use sorted_iter::{Sides, Wants, of_union};
 
-/// Each key of either stream, with the value of each stream at it, if any; of two equal keys the left one.
+/// Each key of either stream, with the value of each stream at it, if any; of two equal keys the
+/// left one.
 ///
-/// It is made by [`outer_join`](crate::SortedPairIterator::outer_join), lazily: `next` asks each stream at most once for each pair
-/// that it passes over. Making and stepping it takes no memory.
+/// It is made by [`outer_join`](crate::SortedPairIterator::outer_join), lazily: `next` asks each
+/// stream at most once for each pair that it passes over. Making and stepping it takes no memory.
 #[derive(Drop)]
 #[must_use = "a stream is lazy and does nothing until it is asked"]
 pub struct OuterJoin<I: Iterator, J: Iterator>
@@ -64,9 +65,11 @@ impl<
     }
 
     fn size_hint(&self) -> (usize, Option<usize>)
-        ensures lower { IsWithinCount result.0 (count_add (ahead_left I.remaining (outer_join_sides self.now).left)
+        ensures lower { IsWithinCount result.0
+            (count_add (ahead_left I.remaining (outer_join_sides self.now).left)
             (ahead_left J.remaining (outer_join_sides self.now).right)) }
-        ensures upper { IfSome result.1 (UpTo (count_add (ahead_left I.remaining (outer_join_sides self.now).left)
+        ensures upper { IfSome result.1 (UpTo
+            (count_add (ahead_left I.remaining (outer_join_sides self.now).left)
             (ahead_left J.remaining (outer_join_sides self.now).right))) }
         ensures table { IsJoinHint outer_join_sides K.cmp (outer_join K.cmp) union_hint
             I.remaining I.next_gives J.remaining J.next_gives self.now result }
@@ -86,9 +89,11 @@ impl<
 
     fn mark(&self) {}
 
-    ghost sorted = { λ s h. outer_join-in_order K.total I.next_gives J.next_gives outer_join_sides s h };
+    ghost sorted = { λ s h. outer_join-in_order K.total I.next_gives J.next_gives outer_join_sides s
+        h };
 
-    ghost goes_on = { λ s t r h e. joined-goes_on K.cmp (outer_join_walk K.cmp) I.next_gives J.next_gives
+    ghost goes_on = { λ s t r h e. joined-goes_on K.cmp (outer_join_walk K.cmp) I.next_gives
+        J.next_gives
         outer_join_sides s t r h e };
 }
 
@@ -99,9 +104,10 @@ impl<
     I: Iterator<Item = (K, V)>,
     J: Iterator<Item = (K, W)>,
 > OuterJoin<I, J> {
-    /// A second stream that goes on alike: its keys are equal to those that are to come from this one, and its values are the
-    /// same, or clones where they were read ahead. O(1), beside the clones of both streams and of the pairs that were read
-    /// ahead. It is refused where one of these clones is.
+    /// A second stream that goes on alike: its keys are equal to those that are to come from this
+    /// one, and its values are the same, or clones where they were read ahead. O(1), beside the
+    /// clones of both streams and of the pairs that were read ahead. It is refused where one of
+    /// these clones is.
     pub fn try_clone(&self) -> Result<Self, NoMemory>
     where
         I: Clone,

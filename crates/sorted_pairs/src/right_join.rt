@@ -17,10 +17,11 @@ use crate::matching::{EitherOrBoth, next_match};
 use element_core::NoMemory;
 use sorted_iter::{Sides, Wants};
 
-/// Each pair of the right stream, with the value of the left one at its key, if any; of two equal keys the right one.
+/// Each pair of the right stream, with the value of the left one at its key, if any; of two equal
+/// keys the right one.
 ///
-/// It is made by [`right_join`](crate::SortedPairIterator::right_join), lazily: `next` asks each stream at most once for each pair
-/// that it passes over. Making and stepping it takes no memory.
+/// It is made by [`right_join`](crate::SortedPairIterator::right_join), lazily: `next` asks each
+/// stream at most once for each pair that it passes over. Making and stepping it takes no memory.
 #[derive(Drop)]
 #[must_use = "a stream is lazy and does nothing until it is asked"]
 pub struct RightJoin<I: Iterator, J: Iterator>
@@ -62,8 +63,10 @@ impl<
     }
 
     fn size_hint(&self) -> (usize, Option<usize>)
-        ensures lower { IsWithinCount result.0 (ahead_left J.remaining (right_join_sides self.now).right) }
-        ensures upper { IfSome result.1 (UpTo (ahead_left J.remaining (right_join_sides self.now).right)) }
+        ensures lower { IsWithinCount result.0
+            (ahead_left J.remaining (right_join_sides self.now).right) }
+        ensures upper { IfSome result.1 (UpTo
+            (ahead_left J.remaining (right_join_sides self.now).right)) }
         ensures table { IsJoinHint right_join_sides K.cmp (right_join K.cmp) right_hint
             I.remaining I.next_gives J.remaining J.next_gives self.now result }
     {
@@ -82,9 +85,11 @@ impl<
 
     fn mark(&self) {}
 
-    ghost sorted = { λ s h. right_join-in_order K.total I.next_gives J.next_gives right_join_sides s h };
+    ghost sorted = { λ s h. right_join-in_order K.total I.next_gives J.next_gives right_join_sides s
+        h };
 
-    ghost goes_on = { λ s t r h e. joined-goes_on K.cmp (right_join_walk K.cmp) I.next_gives J.next_gives
+    ghost goes_on = { λ s t r h e. joined-goes_on K.cmp (right_join_walk K.cmp) I.next_gives
+        J.next_gives
         right_join_sides s t r h e };
 }
 
@@ -95,9 +100,10 @@ impl<
     I: Iterator<Item = (K, V)>,
     J: Iterator<Item = (K, W)>,
 > RightJoin<I, J> {
-    /// A second stream that goes on alike: its keys are equal to those that are to come from this one, and its values are the
-    /// same, or clones where they were read ahead. O(1), beside the clones of both streams and of the pairs that were read
-    /// ahead. It is refused where one of these clones is.
+    /// A second stream that goes on alike: its keys are equal to those that are to come from this
+    /// one, and its values are the same, or clones where they were read ahead. O(1), beside the
+    /// clones of both streams and of the pairs that were read ahead. It is refused where one of
+    /// these clones is.
     pub fn try_clone(&self) -> Result<Self, NoMemory>
     where
         I: Clone,

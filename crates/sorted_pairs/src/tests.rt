@@ -1,4 +1,5 @@
-//! Joins, keys, stored functions, hints, marks and copies: each at a concrete type, on lists that people know.
+//! Joins, keys, stored functions, hints, marks and copies: each at a concrete type, on lists that
+//! people know.
 #![tactic(auto, using(crate::specs::Sources::sources, crate::proofs::Literals::literals))]
 
 use crate::callers::{
@@ -121,7 +122,8 @@ struct Tag {
     label: char,
 }
 
-/// The labels of the keys of the join, of the left join, of the right join and of the outer join of two pairs.
+/// The labels of the keys of the join, of the left join, of the right join and of the outer join of
+/// two pairs.
 fn labels(a: Tag, b: Tag) -> [Option<char>; 4] {
     let joined = once((a, 1u8)).join(once((b, 2u8))).next();
     let left = once((a, 1u8)).left_join(once((b, 2u8))).next();
@@ -294,7 +296,8 @@ fn marks_of_one_pair_or_none(rt: HostRuntime) -> Result<(), Fail> {
     Ok(())
 }
 
-/// The pairs of two maps that have one key, by a range of the one and the iterator of the other, with the keys in turn.
+/// The pairs of two maps that have one key, by a range of the one and the iterator of the other,
+/// with the keys in turn.
 fn of_maps(
     alloc: Global,
     a: &BTreeMap<u32, char>,

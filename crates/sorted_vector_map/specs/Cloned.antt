@@ -10,5 +10,6 @@ module _ {K V : Type 0} (is_key_clone : K → K → Type 0) (is_value_clone : V 
 
   -- where each clone is equal to what was cloned, clones of pairs are equal to them pair by pair
   abbrev pub ClonesAreEqual : (K → K → Bool) → (V → V → Bool) → Type 0
-  ClonesAreEqual key_eq value_eq = ((key copy : K) → is_key_clone key copy → key_eq copy key ≡ true) → ((value copy : V) → is_value_clone value copy → value_eq copy value ≡ true)
+  ClonesAreEqual key_eq value_eq = ((key copy : K) → is_key_clone key copy → key_eq copy key ≡ true)
+      → ((value copy : V) → is_value_clone value copy → value_eq copy value ≡ true)
       → (ps copies : List (K × V)) → AreClones ps copies → pointwise (λ p q. key_eq p.0 q.0 && value_eq p.1 q.1) copies ps ≡ true

@@ -84,7 +84,12 @@ module _ {K V : Type 0} {g : ord.Ghosts K} {g' : eq.Ghosts K} {g'' : partial.Gho
 
   -- e, once w is stored there
   abbrev pub storing : OccupiedEntry K V g g' g'' → V → OccupiedEntry K V g g' g''
-  storing e w = record { map = record e.map { now = record { pairs = after_writing (Occupied e) w; spare = e.map.now.spare } }; at = e.at; within = keeps_within e w }
+  storing e w = record {
+    map = record e.map { now = record { pairs = after_writing (Occupied e) w; spare = e.map.now.spare } };
+    at
+        = e.at;
+    within = keeps_within e w;
+  }
 
   -- how much spare it takes to write a value there
   abbrev pub cost : Entry K V g g' g'' → ℕ
@@ -102,18 +107,21 @@ module _ {K V : Type 0} {g : ord.Ghosts K} {g' : eq.Ghosts K} {g'' : partial.Gho
 module _ (K V : RattleType) {g : ord.Ghosts K.Denot} {g' : eq.Ghosts K.Denot} {g'' : partial.Ghosts K.Denot} where
   -- the map of e ends with the last value that is written through r
   abbrev pub writes_through : Entry K.Denot V.Denot g g' g'' → MutBor V.Denot → Fml
-  writes_through e r = follows (the_row K V g g' g'') V (home e).ghost_name r.ghost_name (λ w. record { pairs = after_writing e w; spare = (home e).now.spare })
+  writes_through e r = follows (the_row K V g g' g'') V (home e).ghost_name r.ghost_name
+      (λ w. record { pairs = after_writing e w; spare = (home e).now.spare })
 
   -- the same where r is `Ok`; at `Err` nothing is written
   abbrev pub writes_through_if_ok : {E : Type 0} → Entry K.Denot V.Denot g g' g'' → Result (MutBor V.Denot) E → Fml
   writes_through_if_ok e r =
-      follows_so (the_row K V g g' g'') V (home e).ghost_name (name_if_ok (λ lent. lent.ghost_name) r) (λ w end. IsOk r → MayEndAs e w end) (λ end. OnErr r (MayStayAs e end))
+      follows_so (the_row K V g g' g'') V (home e).ghost_name (name_if_ok (λ lent. lent.ghost_name) r) (λ w end. IsOk r → MayEndAs e w end)
+      (λ end. OnErr r (MayStayAs e end))
 
   -- the entry behind e ends as one that stores the last value that is written through r
   abbrev pub writes_into : MutBor (OccupiedEntry K.Denot V.Denot g g' g'') → MutBor V.Denot → Fml
   writes_into e r = follows (occupied.the_row (record { mir = named 1; lft = [] }) K V g g' g'') V e.ghost_name r.ghost_name (storing e.now)
 
 -- the map behind m is lent to the entry r, or stays where there is none
-abbrev pub lends_or_stays : (K V : RattleType) (o : OrdMembers K.Denot) {g : ord.Ghosts K.Denot} {g' : eq.Ghosts K.Denot} {g'' : partial.Ghosts K.Denot}
+abbrev pub lends_or_stays : (K V : RattleType) (o : OrdMembers K.Denot) {g : ord.Ghosts K.Denot} {g' : eq.Ghosts K.Denot}
+    {g'' : partial.Ghosts K.Denot}
     → MutBor (Content K.Denot V.Denot) → Option (OccupiedEntry K.Denot V.Denot g g' g'') → Fml
 lends_or_stays K V o m r = RestsIfNone (map_row K V o) m (λ e. e.map.ghost_name) r (λ end. end ≡ m.now)

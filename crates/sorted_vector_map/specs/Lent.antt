@@ -33,9 +33,12 @@ abbrev pub lends_value : (K V : RattleType) (g : OrdMembers K.Denot) → MutBor 
 lends_value K V g m k r = Lends (map_row K V g) V m r (with_value g.cmp m.now k)
 
 -- the same where there is one; without one the map stays
-abbrev pub lends_value_if : (K V : RattleType) (g : OrdMembers K.Denot) → MutBor (Content K.Denot V.Denot) → K.Denot → Option (MutBor V.Denot) → Fml
+abbrev pub lends_value_if : (K V : RattleType) (g : OrdMembers K.Denot) → MutBor (Content K.Denot V.Denot) → K.Denot
+    → Option (MutBor V.Denot) → Fml
 lends_value_if K V g m k r = LendsIf (map_row K V g) V m r (with_value g.cmp m.now k) m.now
 
 -- r is the value of the pair that was put in at place i of the map m; where it was refused the pairs stay
-abbrev pub lends_added : {E : Type 0} (K V : RattleType) (g : OrdMembers K.Denot) → MutBor (Content K.Denot V.Denot) → ℕ → K.Denot → Result (MutBor V.Denot) E → Fml
-lends_added K V g m i k r = LendsSoOk (map_row K V g) V m r (λ n w. (n.pairs ≡ insert m.now.pairs i (k, w)) × (m.now.spare ≤ n.spare + 1)) (λ n. (n.pairs ≡ m.now.pairs) × (m.now.spare ≤ n.spare))
+abbrev pub lends_added : {E : Type 0} (K V : RattleType) (g : OrdMembers K.Denot) → MutBor (Content K.Denot V.Denot) → ℕ → K.Denot
+    → Result (MutBor V.Denot) E → Fml
+lends_added K V g m i k r = LendsSoOk (map_row K V g) V m r (λ n w. (n.pairs ≡ insert m.now.pairs i (k, w)) × (m.now.spare ≤ n.spare + 1))
+    (λ n. (n.pairs ≡ m.now.pairs) × (m.now.spare ≤ n.spare))

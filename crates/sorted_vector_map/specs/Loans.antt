@@ -20,4 +20,5 @@ Scattered V places = record { rep = List V.Denot; coded = coded_list V.coded; si
 
 -- the loan of that name lends the value of each cell for writing
 abbrev pub lends_cells : Lft → (V : RattleType) → GName → List (Ptr × V.Denot) → Fml
-lends_cells l V name cells = fsep (fobs name ((coded_list V.coded).code (map (λ c. c.1) cells))) (fbor l (Body (Scattered V (map (λ c. c.0) cells)) 0 0 name))
+lends_cells l V name cells = fsep (fobs name ((coded_list V.coded).code (map (λ c. c.1) cells)))
+    (fbor l (Body (Scattered V (map (λ c. c.0) cells)) 0 0 name))

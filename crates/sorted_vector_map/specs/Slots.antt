@@ -17,7 +17,8 @@ pub record LentPair (K V : Type 0) : Type 0 where
 
 module _ {K V : Type 0} where
   abbrev pub lent_pair_code : Coded K → Coded V → Coded (LentPair K V)
-  lent_pair_code k v = coded_via (coded× k (coded× coded_ptr v)) (λ s. (s.key, (s.place, s.value))) (λ s t same i. record { key = (same i).0; place = (same i).1.0; value = (same i).1.1 })
+  lent_pair_code k v = coded_via (coded× k (coded× coded_ptr v)) (λ s. (s.key, (s.place, s.value)))
+      (λ s t same i. record { key = (same i).0; place = (same i).1.0; value = (same i).1.1 })
 
   -- the pair, as it was when its value was lent
   abbrev pub pair_of : LentPair K V → K × V

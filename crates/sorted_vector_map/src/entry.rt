@@ -28,7 +28,8 @@ pub struct VacantEntry<'a, K: Ord, V> {
     ghost missing: { IsPairMissing K.cmp map.now.pairs key at },
 }
 
-/// The place of a pair that is stored, from `SortedVectorMap::entry`, `first_entry` or `last_entry`.
+/// The place of a pair that is stored, from `SortedVectorMap::entry`, `first_entry` or
+/// `last_entry`.
 #[derive(Drop)]
 pub struct OccupiedEntry<'a, K: Ord, V> {
     pub(crate) map: &'a mut SortedVectorMap<K, V>,

@@ -17,23 +17,27 @@ use std::collections::BTreeMap;
 use std::mem::{replace, swap};
 
 impl<K: Ord, V> SortedVectorMap<K, V> {
-    /// Puts the pairs of `new` in. No pair changes nothing; one pair is put in as by `insert`, so a stored key stays. Of
-    /// more pairs the last of equal keys wins, and its key and value replace a stored pair.
+    /// Puts the pairs of `new` in. No pair changes nothing; one pair is put in as by `insert`, so a
+    /// stored key stays. Of more pairs the last of equal keys wins, and its key and value replace a
+    /// stored pair.
     ///
-    /// Where memory is short the map stays and the same pairs come back, in any order. That never happens without a pair,
-    /// nor with one that `insert` would take. It takes O(m log m) comparisons for m new pairs, and time for the pairs
-    /// whose keys are above the least new one.
+    /// Where memory is short the map stays and the same pairs come back, in any order. That never
+    /// happens without a pair, nor with one that `insert` would take. It takes O(m log m)
+    /// comparisons for m new pairs, and time for the pairs whose keys are above the least new one.
     pub fn extend_with_vec(&mut self, new: Vec<(K, V)>) -> Result<(), Refused<Vec<(K, V)>>>
     where
         K: Drop,
         V: Drop,
-        ensures pairs { self.new.pairs ≡ (if is_ok result then extended K.cmp self.old.pairs new.items else self.old.pairs) }
+        ensures pairs { self.new.pairs ≡ (if is_ok result then extended K.cmp self.old.pairs
+            new.items else self.old.pairs) }
         ensures given { IfErr result (λ refused. IsPermutation new.items refused.given.items) }
         ensures none { new.items ≡ [] → IsOk result }
-        ensures present { (p : K × V) → new.items ≡ p ∷ [] → IsTrue (has (to_key K.cmp) self.old.pairs p.0) → IsOk result }
+        ensures present { (p : K × V) → new.items ≡ p ∷ []
+            → IsTrue (has (to_key K.cmp) self.old.pairs p.0) → IsOk result }
         ensures roomy { length new.items ≤ 1 → 1 ≤ self.old.spare → IsOk result }
         ensures spare { length new.items ≤ 1 → self.old.spare ≤ self.new.spare + 1 }
-        ensures kept_spare { (p : K × V) → new.items ≡ p ∷ [] → IsTrue (has (to_key K.cmp) self.old.pairs p.0) → self.old.spare ≤ self.new.spare }
+        ensures kept_spare { (p : K × V) → new.items ≡ p ∷ []
+            → IsTrue (has (to_key K.cmp) self.old.pairs p.0) → self.old.spare ≤ self.new.spare }
     {
         if new.len() <= 1 {
             self.extend_with_one(new)
@@ -42,16 +46,19 @@ impl<K: Ord, V> SortedVectorMap<K, V> {
         }
     }
 
-    /// Puts the pairs that `iter` gives in, as `extend_with_vec` does, and costs what it costs. The pairs are collected
-    /// first, in memory of their own.
+    /// Puts the pairs that `iter` gives in, as `extend_with_vec` does, and costs what it costs. The
+    /// pairs are collected first, in memory of their own.
     ///
     /// Where memory is short the map stays, and the pairs are gone.
     pub fn extend<I: IntoIterator<Item = (K, V)>>(&mut self, iter: I) -> Result<(), NoMemory>
     where
         K: Drop,
         V: Drop,
-        requires { (it : I.IntoIter) → I.into_iter_gives iter it → I.IntoIter.can_next it × IsFinite (I.IntoIter.remaining it) }
-        ensures ok { OnOk result ((it : I.IntoIter) × (new : List (K × V)) × I.into_iter_gives iter it × Drains I.IntoIter.next_gives it new × (self.new.pairs ≡ extended K.cmp self.old.pairs new)) }
+        requires { (it : I.IntoIter) → I.into_iter_gives iter it
+            → I.IntoIter.can_next it × IsFinite (I.IntoIter.remaining it) }
+        ensures ok { OnOk result ((it : I.IntoIter) × (new : List (K × V))
+            × I.into_iter_gives iter it × Drains I.IntoIter.next_gives it new
+            × (self.new.pairs ≡ extended K.cmp self.old.pairs new)) }
         ensures err { OnErr result (self.new.pairs ≡ self.old.pairs) }
     {
         let alloc = *self.items.allocator();
@@ -64,7 +71,8 @@ impl<K: Ord, V> SortedVectorMap<K, V> {
         Ok(())
     }
 
-    /// Puts copies of the pairs that `iter` gives in, as `extend_with_vec` does, and costs what `extend` costs.
+    /// Puts copies of the pairs that `iter` gives in, as `extend_with_vec` does, and costs what
+    /// `extend` costs.
     ///
     /// Where memory is short the map stays.
     pub fn extend_copied<'a, I: IntoIterator<Item = (&'a K, &'a V)>>(
@@ -74,8 +82,11 @@ impl<K: Ord, V> SortedVectorMap<K, V> {
     where
         K: Copy + 'a,
         V: Copy + 'a,
-        requires { (it : I.IntoIter) → I.into_iter_gives iter it → I.IntoIter.can_next it × IsFinite (I.IntoIter.remaining it) }
-        ensures ok { OnOk result ((it : I.IntoIter) × (shown : List (Bor K × Bor V)) × I.into_iter_gives iter it × Drains I.IntoIter.next_gives it shown × (self.new.pairs ≡ extended K.cmp self.old.pairs (map deref_pair shown))) }
+        requires { (it : I.IntoIter) → I.into_iter_gives iter it
+            → I.IntoIter.can_next it × IsFinite (I.IntoIter.remaining it) }
+        ensures ok { OnOk result ((it : I.IntoIter) × (shown : List (Bor K × Bor V))
+            × I.into_iter_gives iter it × Drains I.IntoIter.next_gives it shown
+            × (self.new.pairs ≡ extended K.cmp self.old.pairs (map deref_pair shown))) }
         ensures err { OnErr result (self.new.pairs ≡ self.old.pairs) }
     {
         let alloc = *self.items.allocator();
@@ -93,14 +104,15 @@ impl<K: Ord, V> SortedVectorMap<K, V> {
 
     /// Puts all pairs of `other` in, which is empty then. Of equal keys the pair of `other` stays.
     ///
-    /// Where memory is short both maps stay. It takes O(m) time for the m pairs of both maps whose keys aren't below the
-    /// least key of `other`, with one search for that key and amortised growth. Where this map is empty it takes O(1)
-    /// time and no memory, so it is never refused.
+    /// Where memory is short both maps stay. It takes O(m) time for the m pairs of both maps whose
+    /// keys aren't below the least key of `other`, with one search for that key and amortised
+    /// growth. Where this map is empty it takes O(1) time and no memory, so it is never refused.
     pub fn append(&mut self, other: &mut Self) -> Result<(), NoMemory>
     where
         K: Drop,
         V: Drop,
-        ensures pairs { self.new.pairs ≡ (if is_ok result then sets (by_key K.cmp) self.old.pairs other.old.pairs else self.old.pairs) }
+        ensures pairs { self.new.pairs ≡ (if is_ok result then sets
+            (by_key K.cmp) self.old.pairs other.old.pairs else self.old.pairs) }
         ensures other { other.new.pairs ≡ (if is_ok result then [] else other.old.pairs) }
         ensures none { self.old.pairs ≡ [] → IsOk result }
     {
@@ -117,8 +129,8 @@ impl<K: Ord, V> SortedVectorMap<K, V> {
         Ok(())
     }
 
-    /// The map of the pairs that `iter` gives: `extend` of the empty map, in O(m log m) comparisons for m pairs. Where
-    /// memory is short it is refused, and the pairs are gone.
+    /// The map of the pairs that `iter` gives: `extend` of the empty map, in O(m log m) comparisons
+    /// for m pairs. Where memory is short it is refused, and the pairs are gone.
     pub fn try_from_iter<I: IntoIterator<Item = (K, V)>>(
         alloc: Global,
         iter: I,
@@ -126,16 +138,19 @@ impl<K: Ord, V> SortedVectorMap<K, V> {
     where
         K: Drop,
         V: Drop,
-        requires { (it : I.IntoIter) → I.into_iter_gives iter it → I.IntoIter.can_next it × IsFinite (I.IntoIter.remaining it) }
-        ensures { IfOk result (λ m. (it : I.IntoIter) × (new : List (K × V)) × I.into_iter_gives iter it × Drains I.IntoIter.next_gives it new × (m.pairs ≡ extended K.cmp [] new)) }
+        requires { (it : I.IntoIter) → I.into_iter_gives iter it
+            → I.IntoIter.can_next it × IsFinite (I.IntoIter.remaining it) }
+        ensures { IfOk result (λ m. (it : I.IntoIter) × (new : List (K × V))
+            × I.into_iter_gives iter it × Drains I.IntoIter.next_gives it new
+            × (m.pairs ≡ extended K.cmp [] new)) }
     {
         let mut map = SortedVectorMap::new(alloc);
         map.extend(iter)?;
         Ok(map)
     }
 
-    /// The map of the pairs of `bmap`, in O(n) time and without comparisons. It takes memory for all pairs at once. Where
-    /// there is none it is refused, and the pairs are gone.
+    /// The map of the pairs of `bmap`, in O(n) time and without comparisons. It takes memory for
+    /// all pairs at once. Where there is none it is refused, and the pairs are gone.
     pub fn try_from_btree_map(alloc: Global, bmap: BTreeMap<K, V>) -> Result<Self, NoMemory>
     where
         K: Drop,
@@ -146,8 +161,8 @@ impl<K: Ord, V> SortedVectorMap<K, V> {
         Ok(SortedVectorMap { items })
     }
 
-    /// A map of clones of the pairs, in their order and with room for them, in O(n) time. The clone of a key is equal to
-    /// it. It takes memory, and is refused where there is none.
+    /// A map of clones of the pairs, in their order and with room for them, in O(n) time. The clone
+    /// of a key is equal to it. It takes memory, and is refused where there is none.
     pub fn try_clone(&self, alloc: Global) -> Result<Self, NoMemory>
     where
         K: Clone,
@@ -166,13 +181,16 @@ impl<K: Ord, V> SortedVectorMap<K, V> {
         K: Drop,
         V: Drop,
         requires { vec_len new ≤ 1 }
-        ensures pairs { self.new.pairs ≡ (if is_ok result then extended K.cmp self.old.pairs new.items else self.old.pairs) }
+        ensures pairs { self.new.pairs ≡ (if is_ok result then extended K.cmp self.old.pairs
+            new.items else self.old.pairs) }
         ensures given { IfErr result (λ refused. refused.given.items ≡ new.items) }
         ensures none { new.items ≡ [] → IsOk result }
-        ensures present { (p : K × V) → new.items ≡ p ∷ [] → IsTrue (has (to_key K.cmp) self.old.pairs p.0) → IsOk result }
+        ensures present { (p : K × V) → new.items ≡ p ∷ []
+            → IsTrue (has (to_key K.cmp) self.old.pairs p.0) → IsOk result }
         ensures roomy { 1 ≤ self.old.spare → IsOk result }
         ensures spare { self.old.spare ≤ self.new.spare + 1 }
-        ensures kept_spare { (p : K × V) → new.items ≡ p ∷ [] → IsTrue (has (to_key K.cmp) self.old.pairs p.0) → self.old.spare ≤ self.new.spare }
+        ensures kept_spare { (p : K × V) → new.items ≡ p ∷ []
+            → IsTrue (has (to_key K.cmp) self.old.pairs p.0) → self.old.spare ≤ self.new.spare }
     {
         let Some((k, v)) = new.pop() else {
             return Ok(());
@@ -191,7 +209,8 @@ impl<K: Ord, V> SortedVectorMap<K, V> {
     where
         K: Drop,
         V: Drop,
-        ensures pairs { self.new.pairs ≡ (if is_ok result then sets (by_key K.cmp) self.old.pairs new.items else self.old.pairs) }
+        ensures pairs { self.new.pairs ≡ (if is_ok result then sets
+            (by_key K.cmp) self.old.pairs new.items else self.old.pairs) }
         ensures given { IfErr result (λ refused. IsPermutation new.items refused.given.items) }
     {
         if sort_by_key(&mut new).is_err() {
@@ -214,7 +233,8 @@ impl<K: Ord, V> SortedVectorMap<K, V> {
     fn place_under(&self, new: &[(K, V)]) -> usize
         requires { IsSorted (by_key K.cmp) new.now }
         ensures in_range { result ≤ length self.now.pairs }
-        ensures stays { (l : List (K × V)) → sets (by_key K.cmp) (take result self.now.pairs ++ l) new.now ≡ take result self.now.pairs ++ sets (by_key K.cmp) l new.now }
+        ensures stays { (l : List (K × V)) → sets (by_key K.cmp) (take result self.now.pairs ++ l)
+            new.now ≡ take result self.now.pairs ++ sets (by_key K.cmp) l new.now }
     {
         let Some(first) = new.first() else {
             return self.items.len();
@@ -225,11 +245,14 @@ impl<K: Ord, V> SortedVectorMap<K, V> {
         }
     }
 
-    // Makes room for new, and takes the pairs out that don't stay in front of it. All growth is here.
+    // Makes room for new, and takes the pairs out that don't stay in front of it. All growth is
+    // here.
     fn open_for(&mut self, new: &[(K, V)]) -> Option<Vec<(K, V)>>
         requires { IsSorted (by_key K.cmp) new.now }
         ensures parts { IfSome result (λ tail. self.old.pairs ≡ self.new.pairs ++ tail.items) }
-        ensures stays { IfSome result (λ _. (l : List (K × V)) → sets (by_key K.cmp) (self.new.pairs ++ l) new.now ≡ self.new.pairs ++ sets (by_key K.cmp) l new.now) }
+        ensures stays { IfSome result (λ _. (l : List (K × V))
+            → sets (by_key K.cmp) (self.new.pairs ++ l) new.now
+            ≡ self.new.pairs ++ sets (by_key K.cmp) l new.now) }
         ensures ascending { IfSome result (λ _. IsStrictlySortedBy (by_key K.cmp) self.old.pairs) }
         ensures room { IfSome result (λ tail. vec_len tail + length new.now ≤ self.new.spare) }
         ensures none { IfNone result (self.new.pairs ≡ self.old.pairs) }
@@ -250,7 +273,8 @@ impl<K: Ord, V> SortedVectorMap<K, V> {
         K: Drop,
         V: Drop,
         requires ascending { IsStrictlySortedBy (by_key K.cmp) new.items }
-        requires whole { IsStrictlySortedBy (by_key K.cmp) (self.old.pairs ++ sets (by_key K.cmp) tail.items new.items) }
+        requires whole { IsStrictlySortedBy (by_key K.cmp)
+            (self.old.pairs ++ sets (by_key K.cmp) tail.items new.items) }
         requires room { vec_len tail + vec_len new ≤ self.old.spare }
         ensures { self.new.pairs ≡ self.old.pairs ++ sets (by_key K.cmp) tail.items new.items }
     {

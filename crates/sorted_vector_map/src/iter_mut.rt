@@ -21,8 +21,8 @@ use std::marker::Model;
 use std::ops::Bound;
 
 impl<K: Ord, V> SortedVectorMap<K, V> {
-    /// The pairs in the order of their keys, with their values for writing. The keys, their order and their number
-    /// stay. Made in O(1) time and without memory.
+    /// The pairs in the order of their keys, with their values for writing. The keys, their order
+    /// and their number stay. Made in O(1) time and without memory.
     ///
     /// ```ignore
     /// for (_, price) in prices.iter_mut() {
@@ -48,13 +48,15 @@ impl<K: Ord, V> SortedVectorMap<K, V> {
         }
     }
 
-    /// The pairs whose keys lie within `low` and `high`, with their values for writing. The bounds are in order: the
-    /// low key is at most the high one, and they aren't equal and both excluded. It takes O(log n) comparisons and no
-    /// memory.
+    /// The pairs whose keys lie within `low` and `high`, with their values for writing. The bounds
+    /// are in order: the low key is at most the high one, and they aren't equal and both excluded.
+    /// It takes O(log n) comparisons and no memory.
     pub fn range_mut(&mut self, low: Bound<&K>, high: Bound<&K>) -> IterMut<'_, K, V>
         requires { AreInOrder K.cmp (bound_map (λ k. k.now) low) (bound_map (λ k. k.now) high) }
         ensures* writes_back { sem 𝓛 (lends_values K.row V.row K.Ord self.entry result.loan) }
-        ensures pairs { ComesForWriting deref_pair_mut (pairs_within K.cmp (bound_map (λ k. k.now) low.entry) (bound_map (λ k. k.now) high.entry) self.old.pairs) result.rest }
+        ensures pairs { ComesForWriting deref_pair_mut
+            (pairs_within K.cmp (bound_map (λ k. k.now) low.entry)
+            (bound_map (λ k. k.now) high.entry) self.old.pairs) result.rest }
         ensures ascending { IsStrictlySortedBy (by_key K.cmp) self.old.pairs }
     {
         let start = self.start_of(low);
@@ -70,11 +72,13 @@ impl<'map, K: Ord, V> IntoIterator for &'map mut SortedVectorMap<K, V> {
 
     type IntoIter = IterMut<'map, K, V>;
 
-    ghost into_iter_gives = { λ map iter. ComesForWriting deref_pair_mut map.now.pairs iter.rest × IsStrictlySortedBy (by_key K.cmp) map.now.pairs };
+    ghost into_iter_gives = { λ map iter. ComesForWriting deref_pair_mut map.now.pairs iter.rest
+        × IsStrictlySortedBy (by_key K.cmp) map.now.pairs };
 
     fn into_iter(self) -> IterMut<'map, K, V>
         ensures* writes_back { sem 𝓛 (lends_values K.row V.row K.Ord self.entry result.loan) }
-        ensures into_iter_gives { ComesForWriting deref_pair_mut self.old.pairs result.rest × IsStrictlySortedBy (by_key K.cmp) self.old.pairs }
+        ensures into_iter_gives { ComesForWriting deref_pair_mut self.old.pairs result.rest
+            × IsStrictlySortedBy (by_key K.cmp) self.old.pairs }
     {
         self.iter_mut()
     }
@@ -82,7 +86,8 @@ impl<'map, K: Ord, V> IntoIterator for &'map mut SortedVectorMap<K, V> {
 
 /// The pairs of a map that are still to come, with their values for writing.
 ///
-/// It gives them from both ends, in O(1) time each and without memory, and its hint is their exact number.
+/// It gives them from both ends, in O(1) time each and without memory, and its hint is their exact
+/// number.
 #[derive(Drop)]
 pub struct IterMut<'map, K, V> {
     slots: &'map [Slot<K, V>],

@@ -14,7 +14,8 @@ pub use borrowed::{Iter, Keys, Values};
 pub use owned::{IntoKeys, IntoValues};
 
 impl<K: Ord, V> SortedVectorMap<K, V> {
-    /// The pairs in the order of their keys. Made in O(1) time and without memory, as are the other iterators.
+    /// The pairs in the order of their keys. Made in O(1) time and without memory, as are the other
+    /// iterators.
     pub fn iter(&self) -> Iter<'_, K, V>
         ensures pairs { ComesByReference deref_pair self.now.pairs result }
         ensures ascending { IsStrictlySortedBy (by_key K.cmp) self.now.pairs }
@@ -58,7 +59,8 @@ impl<'map, K: Ord, V> IntoIterator for &'map SortedVectorMap<K, V> {
 
     type IntoIter = Iter<'map, K, V>;
 
-    ghost into_iter_gives = { λ map iter. ComesByReference deref_pair map.now.pairs iter × IsStrictlySortedBy (by_key K.cmp) map.now.pairs };
+    ghost into_iter_gives = { λ map iter. ComesByReference deref_pair map.now.pairs iter
+        × IsStrictlySortedBy (by_key K.cmp) map.now.pairs };
 
     fn into_iter(self) -> Self::IntoIter {
         self.iter()
@@ -70,7 +72,8 @@ impl<K: Ord + Drop, V: Drop> IntoIterator for SortedVectorMap<K, V> {
 
     type IntoIter = std::vec::IntoIter<(K, V)>;
 
-    ghost into_iter_gives = { λ map iter. ComesFromVector map.pairs iter × IsStrictlySortedBy (by_key K.cmp) map.pairs };
+    ghost into_iter_gives = { λ map iter. ComesFromVector map.pairs iter
+        × IsStrictlySortedBy (by_key K.cmp) map.pairs };
 
     fn into_iter(self) -> Self::IntoIter {
         self.items.into_iter()

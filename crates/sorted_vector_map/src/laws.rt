@@ -2,12 +2,14 @@
 ghost use Rattle.sorted_vector_map.specs.Cloned.{ClonesAreEqual};
 ghost use Rattle.sorted_vector_map.specs.Refilled.{RefilledKeepsKeys, RefilledKeepsLength};
 
-/// Whatever values are written through an iterator that lends them, the map keeps its keys, in their order.
+/// Whatever values are written through an iterator that lends them, the map keeps its keys, in
+/// their order.
 pub fn refilled_keeps_keys<K: Ord, V>()
     ensures { RefilledKeepsKeys K V }
 {}
 
-/// Whatever values are written through an iterator that lends them, the map keeps its number of pairs.
+/// Whatever values are written through an iterator that lends them, the map keeps its number of
+/// pairs.
 pub fn refilled_keeps_length<K: Ord, V>()
     ensures { RefilledKeepsLength K V }
 {}

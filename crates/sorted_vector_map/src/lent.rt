@@ -6,8 +6,8 @@ ghost use Rattle.sorted_vector_map.specs.Loans.{lends_cells};
 
 use std::marker::{Model, PhantomData};
 
-// The loan `name` lends the values that are passed over, those in `cells`, which may be taken from both ends, and those
-// left out. What it ends at is what the loan `tie` ends at.
+// The loan `name` lends the values that are passed over, those in `cells`, which may be taken from
+// both ends, and those left out. What it ends at is what the loan `tie` ends at.
 pub struct Lent<'a, V> {
     pub(crate) mark: PhantomData<&'a mut V>,
     ghost name: { GName },
@@ -30,8 +30,8 @@ impl<V> Drop for Lent<'_, V> {
 }
 
 impl<'a, V> Lent<'a, V> {
-    // Leaves out all but `count` cells from the `start`-th on. Nothing is done when it runs: what is left out is known to the
-    // proofs alone.
+    // Leaves out all but `count` cells from the `start`-th on. Nothing is done when it runs: what
+    // is left out is known to the proofs alone.
     pub(crate) fn narrow(&mut self, start: usize, count: usize)
         ensures cells { self.new.cells ≡ take count (drop start self.old.cells) }
         ensures tie { self.new.tie ≡ self.old.tie }

@@ -1,7 +1,8 @@
 //! A map whose pairs lie in the order of their keys in one vector.
 //!
-//! Look-ups are a binary search, and keys in order are put in at the end without one. Putting a pair in before others,
-//! or taking one out, moves those behind it; many new pairs at once are merged in.
+//! Look-ups are a binary search, and keys in order are put in at the end without one. Putting a
+//! pair in before others, or taking one out, moves those behind it; many new pairs at once are
+//! merged in.
 #![tactic(auto)]
 
 #[cfg(test)]

@@ -8,8 +8,8 @@ use element_core::{NoMemory, Refused};
 use std::alloc::Global;
 use std::marker::Model;
 
-/// A map whose pairs lie in one vector, in ascending order of their keys. Equal keys may differ in what their
-/// comparison doesn't look at, so each call says which one stays.
+/// A map whose pairs lie in one vector, in ascending order of their keys. Equal keys may differ in
+/// what their comparison doesn't look at, so each call says which one stays.
 ///
 /// Its spare is the number of pairs that it can take without memory.
 #[derive(Drop)]
@@ -26,7 +26,11 @@ impl<K: Ord, V> Model for SortedVectorMap<K, V> {
 
     ghost Value = { Content K V };
 
-    ghost view = { λ m. record { pairs = m.items.items; spare = vec_capacity m.items - vec_len m.items } };
+    ghost view = { λ m. record {
+      pairs = m.items.items;
+      spare
+          = vec_capacity m.items - vec_len m.items;
+    } };
 
     ghost invariant = { λ m. IsStrictlySortedBy (by_key K.cmp) m.items.items };
 }
@@ -41,8 +45,8 @@ impl<K: Ord, V> SortedVectorMap<K, V> {
         }
     }
 
-    /// The empty map with room for `capacity` pairs, in O(1) time. It takes memory, and is refused where there is none,
-    /// and where so many pairs are more than any memory can hold.
+    /// The empty map with room for `capacity` pairs, in O(1) time. It takes memory, and is refused
+    /// where there is none, and where so many pairs are more than any memory can hold.
     pub fn with_capacity(alloc: Global, capacity: usize) -> Result<Self, NoMemory>
         ensures pairs { IfOk result (λ m. m.pairs ≡ []) }
         ensures spare { IfOk result (λ m. capacity ≤ m.spare) }
@@ -84,24 +88,28 @@ impl<K: Ord, V> SortedVectorMap<K, V> {
         self.items.is_empty()
     }
 
-    /// Puts `v` in the place of the value at a key equal to `k`, whose stored key stays, and answers the old value.
-    /// Without such a key the pair is put in and the answer is `None`.
+    /// Puts `v` in the place of the value at a key equal to `k`, whose stored key stays, and
+    /// answers the old value. Without such a key the pair is put in and the answer is `None`.
     ///
-    /// Where memory is short the map stays and the pair comes back. That never happens where an equal key is present
-    /// or the map has spare. It takes O(log n) comparisons and moves the pairs of greater keys; a key above all others
-    /// takes O(1) amortised time.
+    /// Where memory is short the map stays and the pair comes back. That never happens where an
+    /// equal key is present or the map has spare. It takes O(log n) comparisons and moves the pairs
+    /// of greater keys; a key above all others takes O(1) amortised time.
     pub fn insert(&mut self, k: K, v: V) -> Result<Option<V>, Refused<(K, V)>>
     where
         K: Drop,
-        ensures pairs { self.new.pairs ≡ (if is_ok result then put K.cmp self.old.pairs k v else self.old.pairs) }
-        ensures replaced { IfOk result (λ old. old ≡ option_map (λ p. p.1) (find (to_key K.cmp) self.old.pairs k)) }
+        ensures pairs { self.new.pairs ≡ (if is_ok result then put K.cmp self.old.pairs k v else
+            self.old.pairs) }
+        ensures replaced { IfOk result (λ old. old
+            ≡ option_map (λ p. p.1) (find (to_key K.cmp) self.old.pairs k)) }
         ensures found { OnOk result (IsTrue (has (to_key K.cmp) self.new.pairs k)) }
-        ensures holds { OnOk result (option_map (λ p. p.1) (find (to_key K.cmp) self.new.pairs k) ≡ Some v) }
+        ensures holds { OnOk result (option_map (λ p. p.1) (find (to_key K.cmp) self.new.pairs k)
+            ≡ Some v) }
         ensures given { IfErr result (λ refused. refused.given ≡ (k, v)) }
         ensures present { IsTrue (has (to_key K.cmp) self.old.pairs k) → IsOk result }
         ensures roomy { 1 ≤ self.old.spare → IsOk result }
         ensures spare { self.old.spare ≤ self.new.spare + 1 }
-        ensures kept_spare { IsTrue (has (to_key K.cmp) self.old.pairs k) → self.old.spare ≤ self.new.spare }
+        ensures kept_spare { IsTrue (has (to_key K.cmp) self.old.pairs k)
+            → self.old.spare ≤ self.new.spare }
     {
         match self.place_for(&k) {
             Ok(at) => Ok(Some(self.write_at(at, v))),
@@ -112,8 +120,8 @@ impl<K: Ord, V> SortedVectorMap<K, V> {
         }
     }
 
-    /// Takes the pair of a key equal to `q` out, or answers `None` where there is none, in O(log n) comparisons. The
-    /// pairs behind it move. It takes no memory.
+    /// Takes the pair of a key equal to `q` out, or answers `None` where there is none, in O(log n)
+    /// comparisons. The pairs behind it move. It takes no memory.
     pub fn remove_entry(&mut self, q: &K) -> Option<(K, V)>
         ensures pairs { self.new.pairs ≡ take_out (to_key K.cmp) self.old.pairs q.now }
         ensures taken { result ≡ find (to_key K.cmp) self.old.pairs q.now }
@@ -125,8 +133,8 @@ impl<K: Ord, V> SortedVectorMap<K, V> {
         }
     }
 
-    /// Takes the pair of a key equal to `q` out and answers its value, or `None` where there is none. It costs what
-    /// `remove_entry` costs.
+    /// Takes the pair of a key equal to `q` out and answers its value, or `None` where there is
+    /// none. It costs what `remove_entry` costs.
     pub fn remove(&mut self, q: &K) -> Option<V>
     where
         K: Drop,

@@ -23,15 +23,18 @@ fn side<K: Ord, V>(left: &VecDeque<(K, V)>, right: &VecDeque<(K, V)>) -> Orderin
     }
 }
 
-// The pair of the least key of both. Of two equal keys it is that of `right`, and the other is dropped.
+// The pair of the least key of both. Of two equal keys it is that of `right`, and the other is
+// dropped.
 fn next_of<K: Ord + Drop, V: Drop>(
     left: &mut VecDeque<(K, V)>,
     right: &mut VecDeque<(K, V)>,
 ) -> Option<(K, V)>
     requires { IsStrictlySortedBy (by_key K.cmp) right.old.items }
-    ensures merged { sets (by_key K.cmp) left.old.items right.old.items ≡ option_to_list result ++ sets (by_key K.cmp) left.new.items right.new.items }
+    ensures merged { sets (by_key K.cmp) left.old.items right.old.items
+        ≡ option_to_list result ++ sets (by_key K.cmp) left.new.items right.new.items }
     ensures ascending { IsStrictlySortedBy (by_key K.cmp) right.new.items }
-    ensures len { deque_len left.new + deque_len right.new + length (option_to_list result) ≤ deque_len left.old + deque_len right.old }
+    ensures len { deque_len left.new + deque_len right.new + length (option_to_list result)
+        ≤ deque_len left.old + deque_len right.old }
     ensures none { IfNone result ((left.new.items ≡ []) × (right.new.items ≡ [])) }
 {
     match side(left, right) {
@@ -44,7 +47,8 @@ fn next_of<K: Ord + Drop, V: Drop>(
     }
 }
 
-// Puts the pairs of both behind those of `merged`, which has room for them. Of two equal keys that of `right` stays.
+// Puts the pairs of both behind those of `merged`, which has room for them. Of two equal keys that
+// of `right` stays.
 pub(crate) fn merge<K: Ord + Drop, V: Drop>(
     left: Vec<(K, V)>,
     right: Vec<(K, V)>,
@@ -76,7 +80,8 @@ fn merge_queues<K: Ord + Drop, V: Drop>(
     merged: &mut Vec<(K, V)>,
 )
     requires ascending { IsStrictlySortedBy (by_key K.cmp) right.items }
-    requires room { vec_len merged.old + deque_len left + deque_len right ≤ vec_capacity merged.old }
+    requires room { vec_len merged.old + deque_len left + deque_len right
+        ≤ vec_capacity merged.old }
     ensures { merged.new.items ≡ merged.old.items ++ sets (by_key K.cmp) left.items right.items }
 {
     while let Some(pair) = next_of(&mut left, &mut right) {
@@ -89,7 +94,8 @@ pub(crate) fn sort_by_key<K: Ord, V>(items: &mut Vec<(K, V)>) -> Result<(), Allo
     ensures permutation { IsPermutation items.old.items items.new.items }
     ensures len { vec_len items.new ≡ vec_len items.old }
     ensures sorted { OnOk result (IsSorted (by_key K.cmp) items.new.items) }
-    ensures same { (l : List (K × V)) → IsStrictlySortedBy (by_key K.cmp) l → sets (by_key K.cmp) l items.new.items ≡ sets (by_key K.cmp) l items.old.items }
+    ensures same { (l : List (K × V)) → IsStrictlySortedBy (by_key K.cmp) l
+        → sets (by_key K.cmp) l items.new.items ≡ sets (by_key K.cmp) l items.old.items }
     ensures err { OnErr result (items.new.items ≡ items.old.items) }
 {
     items.sort_by(|a, b| a.0.cmp(&b.0))?;
@@ -100,7 +106,8 @@ pub(crate) fn sort_by_key<K: Ord, V>(items: &mut Vec<(K, V)>) -> Result<(), Allo
 pub(crate) fn keep_last<K: Ord + Drop, V: Drop>(items: &mut Vec<(K, V)>)
     requires { IsSorted (by_key K.cmp) items.old.items }
     ensures ascending { IsStrictlySortedBy (by_key K.cmp) items.new.items }
-    ensures same { (l : List (K × V)) → sets (by_key K.cmp) l items.new.items ≡ sets (by_key K.cmp) l items.old.items }
+    ensures same { (l : List (K × V)) → sets (by_key K.cmp) l items.new.items
+        ≡ sets (by_key K.cmp) l items.old.items }
     ensures len { vec_len items.new ≤ vec_len items.old }
 {
     items.dedup_by(|later, kept| {

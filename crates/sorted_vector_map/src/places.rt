@@ -75,7 +75,8 @@ impl<K: Ord, V> SortedVectorMap<K, V> {
     // Puts a pair in at the place of its key, which is missing.
     pub(crate) fn insert_at(&mut self, at: usize, k: K, v: V) -> Result<(), Refused<(K, V)>>
         requires { IsPairMissing K.cmp self.old.pairs k at }
-        ensures pairs { self.new.pairs ≡ (if is_ok result then insert self.old.pairs at (k, v) else self.old.pairs) }
+        ensures pairs { self.new.pairs ≡ (if is_ok result then insert self.old.pairs at
+            (k, v) else self.old.pairs) }
         ensures given { IfErr result (λ refused. refused.given ≡ (k, v)) }
         ensures roomy { 1 ≤ self.old.spare → IsOk result }
         ensures spare { self.old.spare ≤ self.new.spare + (if is_ok result then 1 else 0) }

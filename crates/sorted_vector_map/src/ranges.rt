@@ -17,11 +17,14 @@ use std::alloc::Global;
 use std::ops::Bound;
 
 impl<K: Ord, V> SortedVectorMap<K, V> {
-    /// The pairs whose keys lie within `low` and `high`, which are in order: the low key is at most the high one, and
-    /// they aren't equal and both excluded. It takes O(log n) comparisons and no memory.
+    /// The pairs whose keys lie within `low` and `high`, which are in order: the low key is at most
+    /// the high one, and they aren't equal and both excluded. It takes O(log n) comparisons and no
+    /// memory.
     pub fn range(&self, low: Bound<&K>, high: Bound<&K>) -> Iter<'_, K, V>
         requires { AreInOrder K.cmp (bound_map (λ k. k.now) low) (bound_map (λ k. k.now) high) }
-        ensures pairs { ComesByReference deref_pair (pairs_within K.cmp (bound_map (λ k. k.now) low.entry) (bound_map (λ k. k.now) high.entry) self.now.pairs) result }
+        ensures pairs { ComesByReference deref_pair
+            (pairs_within K.cmp (bound_map (λ k. k.now) low.entry)
+            (bound_map (λ k. k.now) high.entry) self.now.pairs) result }
         ensures ascending { IsStrictlySortedBy (by_key K.cmp) self.now.pairs }
     {
         let start = self.start_of(low);
@@ -31,10 +34,13 @@ impl<K: Ord, V> SortedVectorMap<K, V> {
 
     /// Keeps the pairs of keys below `q`, and answers a map of the others.
     ///
-    /// Where memory is short the map stays. It takes O(log n) comparisons, and time for the pairs that leave.
+    /// Where memory is short the map stays. It takes O(log n) comparisons, and time for the pairs
+    /// that leave.
     pub fn split_off(&mut self, alloc: Global, q: &K) -> Result<Self, NoMemory>
-        ensures below { OnOk result (self.new.pairs ≡ filter (λ p. is_lt (K.cmp p.0 q.now)) self.old.pairs) }
-        ensures from { IfOk result (λ rest. rest.pairs ≡ filter (λ p. not (is_lt (K.cmp p.0 q.now))) self.old.pairs) }
+        ensures below { OnOk result (self.new.pairs
+            ≡ filter (λ p. is_lt (K.cmp p.0 q.now)) self.old.pairs) }
+        ensures from { IfOk result (λ rest. rest.pairs
+            ≡ filter (λ p. not (is_lt (K.cmp p.0 q.now))) self.old.pairs) }
         ensures err { OnErr result (self.new.pairs ≡ self.old.pairs) }
     {
         // The pairs that leave take the allocator of the map, which is the only one.
@@ -70,7 +76,8 @@ impl<K: Ord, V> SortedVectorMap<K, V> {
 
     // The place of the first pair whose key isn't below the low bound.
     pub(crate) fn start_of(&self, low: Bound<&K>) -> usize
-        ensures { IsCutAt (λ p. is_before K.cmp (bound_map (λ k. k.now) low.entry) p.0) self.now.pairs result }
+        ensures { IsCutAt (λ p. is_before K.cmp (bound_map (λ k. k.now) low.entry) p.0)
+            self.now.pairs result }
     {
         match low {
             Bound::Included(k) => self.place_of(k),
@@ -81,7 +88,8 @@ impl<K: Ord, V> SortedVectorMap<K, V> {
 
     // The place of the first pair whose key is above the high bound.
     pub(crate) fn end_of(&self, high: Bound<&K>) -> usize
-        ensures { IsCutAt (λ p. is_within K.cmp (bound_map (λ k. k.now) high.entry) p.0) self.now.pairs result }
+        ensures { IsCutAt (λ p. is_within K.cmp (bound_map (λ k. k.now) high.entry) p.0)
+            self.now.pairs result }
     {
         match high {
             Bound::Included(k) => self.place_after(k),

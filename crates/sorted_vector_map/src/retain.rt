@@ -5,8 +5,8 @@ ghost use Rattle.std.specs.Map.Calls.{CalledAtPair, TakesPair, CallableOnEachPai
 use crate::map::SortedVectorMap;
 
 impl<K: Ord, V> SortedVectorMap<K, V> {
-    /// Calls `f` once on each pair in the order of the keys, and keeps the pairs at which it answers true, with the values
-    /// that the calls left. It takes O(n) time and no memory.
+    /// Calls `f` once on each pair in the order of the keys, and keeps the pairs at which it
+    /// answers true, with the values that the calls left. It takes O(n) time and no memory.
     pub fn retain<F: FnMut(&K, &mut V) -> bool>(&mut self, mut f: F)
     where
         K: Drop,
@@ -20,7 +20,8 @@ impl<K: Ord, V> SortedVectorMap<K, V> {
     }
 }
 
-// Moves the pairs at which f answers true to the front, in their order, and answers how many they are.
+// Moves the pairs at which f answers true to the front, in their order, and answers how many they
+// are.
 fn bring_forward<K, V, F: FnMut(&K, &mut V) -> bool>(f: &mut F, pairs: &mut [(K, V)]) -> usize
     requires { CallableOnEachPair (CalledAtPair F.FnMut) (TakesPair F.FnMut) f.old pairs.old }
     ensures in_range { result ≤ length pairs.new }

@@ -39,7 +39,8 @@ impl<K, V> Slot<K, V> {
 
     // The key, and the value out of the loan, in which it is the last.
     pub(crate) fn take_last<'a>(&'a self, lent: &mut Lent<'a, V>) -> (&'a K, &'a mut V)
-        requires { (earlier : List (Ptr × V)) × (lent.old.cells ≡ earlier ++ cell_of self.now ∷ []) }
+        requires { (earlier : List (Ptr × V))
+            × (lent.old.cells ≡ earlier ++ cell_of self.now ∷ []) }
         ensures pair { (result.0.now ≡ self.now.key) × (result.1.now ≡ self.now.value) }
         ensures cells { lent.old.cells ≡ lent.new.cells ++ cell_of self.now ∷ [] }
         ensures tie { lent.new.tie ≡ lent.old.tie }

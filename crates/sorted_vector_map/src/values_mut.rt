@@ -10,7 +10,8 @@ use std::marker::Model;
 
 /// The values of a map that are still to come, for writing.
 ///
-/// It gives them from both ends, in O(1) time each and without memory, and its hint is their exact number.
+/// It gives them from both ends, in O(1) time each and without memory, and its hint is their exact
+/// number.
 #[derive(Drop)]
 pub struct ValuesMut<'map, K, V> {
     pub(crate) pairs: IterMut<'map, K, V>,

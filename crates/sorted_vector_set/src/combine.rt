@@ -12,14 +12,17 @@ use element_core::NoMemory;
 use std::alloc::Global;
 
 impl<T: Ord> SortedVectorSet<T> {
-    /// A set of clones of the items to which an item of `rhs` is equal. The clone of an item is equal to it.
+    /// A set of clones of the items to which an item of `rhs` is equal. The clone of an item is
+    /// equal to it.
     ///
-    /// It takes O(n + m) comparisons and memory, and is refused where there is none. So do the other three.
+    /// It takes O(n + m) comparisons and memory, and is refused where there is none. So do the
+    /// other three.
     pub fn bitand(&self, alloc: Global, rhs: &Self) -> Result<Self, NoMemory>
     where
         T: Clone,
         requires { (item copy : T) → T.is_clone item copy → T.eq copy item ≡ true }
-        ensures { IfOk result (λ s. AllZip T.is_clone (intersection T.cmp self.now.items rhs.now.items) s.items) }
+        ensures { IfOk result (λ s. AllZip T.is_clone
+            (intersection T.cmp self.now.items rhs.now.items) s.items) }
     {
         let set = clones_of(alloc, self.intersection(rhs))?;
         Ok(set)
@@ -30,7 +33,8 @@ impl<T: Ord> SortedVectorSet<T> {
     where
         T: Clone,
         requires { (item copy : T) → T.is_clone item copy → T.eq copy item ≡ true }
-        ensures { IfOk result (λ s. AllZip T.is_clone (union T.cmp rhs.now.items self.now.items) s.items) }
+        ensures { IfOk result (λ s. AllZip T.is_clone (union T.cmp rhs.now.items self.now.items)
+            s.items) }
     {
         let set = clones_of(alloc, self.union(rhs))?;
         Ok(set)
@@ -41,7 +45,8 @@ impl<T: Ord> SortedVectorSet<T> {
     where
         T: Clone,
         requires { (item copy : T) → T.is_clone item copy → T.eq copy item ≡ true }
-        ensures { IfOk result (λ s. AllZip T.is_clone (difference T.cmp self.now.items rhs.now.items) s.items) }
+        ensures { IfOk result (λ s. AllZip T.is_clone
+            (difference T.cmp self.now.items rhs.now.items) s.items) }
     {
         let set = clones_of(alloc, self.difference(rhs))?;
         Ok(set)
@@ -52,7 +57,8 @@ impl<T: Ord> SortedVectorSet<T> {
     where
         T: Clone,
         requires { (item copy : T) → T.is_clone item copy → T.eq copy item ≡ true }
-        ensures { IfOk result (λ s. AllZip T.is_clone (symmetric_difference T.cmp self.now.items rhs.now.items) s.items) }
+        ensures { IfOk result (λ s. AllZip T.is_clone
+            (symmetric_difference T.cmp self.now.items rhs.now.items) s.items) }
     {
         let set = clones_of(alloc, self.symmetric_difference(rhs))?;
         Ok(set)
@@ -67,8 +73,10 @@ fn clones_of<'a, T: Ord + Clone + 'a, I: Iterator<Item = &'a T>>(
     requires can { I.can_next items }
     requires finite { IsFinite (I.remaining items) }
     requires clones { (item copy : T) → T.is_clone item copy → T.eq copy item ≡ true }
-    requires ascending { (shown : List (Bor T)) → Drains I.next_gives items shown → IsStrictlySortedBy T.cmp (map deref shown) }
-    ensures { IfOk result (λ s. (shown : List (Bor T)) × Drains I.next_gives items shown × AllZip T.is_clone (map deref shown) s.items) }
+    requires ascending { (shown : List (Bor T)) → Drains I.next_gives items shown
+        → IsStrictlySortedBy T.cmp (map deref shown) }
+    ensures { IfOk result (λ s. (shown : List (Bor T)) × Drains I.next_gives items shown
+        × AllZip T.is_clone (map deref shown) s.items) }
 {
     let mut copies = Vec::new(alloc);
     for item in items {

@@ -1,4 +1,5 @@
-//! Equality, order and hash of sets, which are those of their lists of items, and how a set is shown.
+//! Equality, order and hash of sets, which are those of their lists of items, and how a set is
+//! shown.
 ghost use Rattle.std.specs.Hash as fed;
 ghost use Rattle.std.specs.Cmp.Lexicographic.{pointwise, slice_cmp, slice_partial_cmp, lists_equiv, lists_agrees, lists_total, lists_ties, lists_per, lists_po};
 ghost use Rattle.std.specs.Cmp.{on_equiv, on_total, on_per, on_po};
@@ -50,7 +51,8 @@ impl<T: Ord> Ord for SortedVectorSet<T> {
 impl<T: Ord + Hash> Hash for SortedVectorSet<T> {
     ghost hash_input = { λ s. fed.slice T.hash_input s.items };
 
-    ghost respects_eq = { (on_Alike (λ s. s.items) (items_Alike (record { fed = T.respects_eq }))).fed };
+    ghost respects_eq = { (on_Alike (λ s. s.items)
+        (items_Alike (record { fed = T.respects_eq }))).fed };
 
     fn hash<H: Hasher>(&self, state: &mut H) {
         self.items.hash(state);

@@ -19,19 +19,22 @@ use std::mem::{replace, swap};
 impl<T: Ord> SortedVectorSet<T> {
     /// Puts the items of `new` in. The last of equal items wins, and replaces a stored one.
     ///
-    /// Where memory is short the set stays and the same items come back, in any order. That never happens without an
-    /// item, nor with one that `insert` would take. It takes O(m log m) comparisons for m new items, and time for the
-    /// items above the least new one.
+    /// Where memory is short the set stays and the same items come back, in any order. That never
+    /// happens without an item, nor with one that `insert` would take. It takes O(m log m)
+    /// comparisons for m new items, and time for the items above the least new one.
     pub fn extend_with_vec(&mut self, new: Vec<T>) -> Result<(), Refused<Vec<T>>>
     where
         T: Drop,
-        ensures items { self.new.items ≡ (if is_ok result then sets T.cmp self.old.items new.items else self.old.items) }
+        ensures items { self.new.items ≡ (if is_ok result then sets T.cmp self.old.items new.items
+            else self.old.items) }
         ensures given { IfErr result (λ refused. IsPermutation new.items refused.given.items) }
         ensures none { new.items ≡ [] → IsOk result }
-        ensures present { (x : T) → new.items ≡ x ∷ [] → IsTrue (has T.cmp self.old.items x) → IsOk result }
+        ensures present { (x : T) → new.items ≡ x ∷ [] → IsTrue (has T.cmp self.old.items x)
+            → IsOk result }
         ensures roomy { length new.items ≤ 1 → 1 ≤ self.old.spare → IsOk result }
         ensures spare { length new.items ≤ 1 → self.old.spare ≤ self.new.spare + 1 }
-        ensures kept_spare { (x : T) → new.items ≡ x ∷ [] → IsTrue (has T.cmp self.old.items x) → self.old.spare ≤ self.new.spare }
+        ensures kept_spare { (x : T) → new.items ≡ x ∷ [] → IsTrue (has T.cmp self.old.items x)
+            → self.old.spare ≤ self.new.spare }
     {
         if new.len() <= 1 {
             self.extend_with_one(new)
@@ -40,15 +43,18 @@ impl<T: Ord> SortedVectorSet<T> {
         }
     }
 
-    /// Puts the items that `iter` gives in, as `extend_with_vec` does, and costs what it costs. The items are collected
-    /// first, in memory of their own.
+    /// Puts the items that `iter` gives in, as `extend_with_vec` does, and costs what it costs. The
+    /// items are collected first, in memory of their own.
     ///
     /// Where memory is short the set stays, and the items are gone.
     pub fn extend<I: IntoIterator<Item = T>>(&mut self, iter: I) -> Result<(), NoMemory>
     where
         T: Drop,
-        requires { (it : I.IntoIter) → I.into_iter_gives iter it → I.IntoIter.can_next it × IsFinite (I.IntoIter.remaining it) }
-        ensures ok { OnOk result ((it : I.IntoIter) × (new : List T) × I.into_iter_gives iter it × Drains I.IntoIter.next_gives it new × (self.new.items ≡ sets T.cmp self.old.items new)) }
+        requires { (it : I.IntoIter) → I.into_iter_gives iter it
+            → I.IntoIter.can_next it × IsFinite (I.IntoIter.remaining it) }
+        ensures ok { OnOk result ((it : I.IntoIter) × (new : List T) × I.into_iter_gives iter it
+            × Drains I.IntoIter.next_gives it new
+            × (self.new.items ≡ sets T.cmp self.old.items new)) }
         ensures err { OnErr result (self.new.items ≡ self.old.items) }
     {
         let alloc = *self.items.allocator();
@@ -61,7 +67,8 @@ impl<T: Ord> SortedVectorSet<T> {
         Ok(())
     }
 
-    /// Puts copies of the items that `iter` gives in, as `extend_with_vec` does, and costs what `extend` costs.
+    /// Puts copies of the items that `iter` gives in, as `extend_with_vec` does, and costs what
+    /// `extend` costs.
     ///
     /// Where memory is short the set stays.
     pub fn extend_copied<'a, I: IntoIterator<Item = &'a T>>(
@@ -70,8 +77,11 @@ impl<T: Ord> SortedVectorSet<T> {
     ) -> Result<(), NoMemory>
     where
         T: Copy + 'a,
-        requires { (it : I.IntoIter) → I.into_iter_gives iter it → I.IntoIter.can_next it × IsFinite (I.IntoIter.remaining it) }
-        ensures ok { OnOk result ((it : I.IntoIter) × (shown : List (Bor T)) × I.into_iter_gives iter it × Drains I.IntoIter.next_gives it shown × (self.new.items ≡ sets T.cmp self.old.items (map deref shown))) }
+        requires { (it : I.IntoIter) → I.into_iter_gives iter it
+            → I.IntoIter.can_next it × IsFinite (I.IntoIter.remaining it) }
+        ensures ok { OnOk result ((it : I.IntoIter) × (shown : List (Bor T))
+            × I.into_iter_gives iter it × Drains I.IntoIter.next_gives it shown
+            × (self.new.items ≡ sets T.cmp self.old.items (map deref shown))) }
         ensures err { OnErr result (self.new.items ≡ self.old.items) }
     {
         let alloc = *self.items.allocator();
@@ -89,13 +99,14 @@ impl<T: Ord> SortedVectorSet<T> {
 
     /// Puts all items of `other` in, which is empty then. Of two equal items that of `other` stays.
     ///
-    /// Where memory is short both sets stay. It takes O(m) time for the m items of both sets that aren't below the least
-    /// item of `other`, with one search for that item and amortised growth. Where this set is empty it takes O(1) time
-    /// and no memory, so it is never refused.
+    /// Where memory is short both sets stay. It takes O(m) time for the m items of both sets that
+    /// aren't below the least item of `other`, with one search for that item and amortised growth.
+    /// Where this set is empty it takes O(1) time and no memory, so it is never refused.
     pub fn append(&mut self, other: &mut Self) -> Result<(), NoMemory>
     where
         T: Drop,
-        ensures items { self.new.items ≡ (if is_ok result then sets T.cmp self.old.items other.old.items else self.old.items) }
+        ensures items { self.new.items ≡ (if is_ok result then sets T.cmp self.old.items
+            other.old.items else self.old.items) }
         ensures other { other.new.items ≡ (if is_ok result then [] else other.old.items) }
         ensures none { self.old.items ≡ [] → IsOk result }
     {
@@ -112,24 +123,26 @@ impl<T: Ord> SortedVectorSet<T> {
         Ok(())
     }
 
-    /// The set of the items that `iter` gives: `extend` of the empty set, in O(m log m) comparisons for m items. Where
-    /// memory is short it is refused, and the items are gone.
+    /// The set of the items that `iter` gives: `extend` of the empty set, in O(m log m) comparisons
+    /// for m items. Where memory is short it is refused, and the items are gone.
     pub fn try_from_iter<I: IntoIterator<Item = T>>(
         alloc: Global,
         iter: I,
     ) -> Result<Self, NoMemory>
     where
         T: Drop,
-        requires { (it : I.IntoIter) → I.into_iter_gives iter it → I.IntoIter.can_next it × IsFinite (I.IntoIter.remaining it) }
-        ensures { IfOk result (λ s. (it : I.IntoIter) × (new : List T) × I.into_iter_gives iter it × Drains I.IntoIter.next_gives it new × (s.items ≡ sets T.cmp [] new)) }
+        requires { (it : I.IntoIter) → I.into_iter_gives iter it
+            → I.IntoIter.can_next it × IsFinite (I.IntoIter.remaining it) }
+        ensures { IfOk result (λ s. (it : I.IntoIter) × (new : List T) × I.into_iter_gives iter it
+            × Drains I.IntoIter.next_gives it new × (s.items ≡ sets T.cmp [] new)) }
     {
         let mut set = SortedVectorSet::new(alloc);
         set.extend(iter)?;
         Ok(set)
     }
 
-    /// The set of the items of `bset`, in O(n) time and without comparisons. It takes memory for all items at once. Where
-    /// there is none it is refused, and the items are gone.
+    /// The set of the items of `bset`, in O(n) time and without comparisons. It takes memory for
+    /// all items at once. Where there is none it is refused, and the items are gone.
     pub fn try_from_btree_set(alloc: Global, bset: BTreeSet<T>) -> Result<Self, NoMemory>
     where
         T: Drop,
@@ -139,8 +152,9 @@ impl<T: Ord> SortedVectorSet<T> {
         Ok(SortedVectorSet { items })
     }
 
-    /// A set of clones of the items, in their order and with room for them, in O(n) time. The clone of an item is equal
-    /// to it, so the sets are equal. It takes memory, and is refused where there is none.
+    /// A set of clones of the items, in their order and with room for them, in O(n) time. The clone
+    /// of an item is equal to it, so the sets are equal. It takes memory, and is refused where
+    /// there is none.
     pub fn try_clone(&self, alloc: Global) -> Result<Self, NoMemory>
     where
         T: Clone,
@@ -158,13 +172,16 @@ impl<T: Ord> SortedVectorSet<T> {
     where
         T: Drop,
         requires { vec_len new ≤ 1 }
-        ensures items { self.new.items ≡ (if is_ok result then sets T.cmp self.old.items new.items else self.old.items) }
+        ensures items { self.new.items ≡ (if is_ok result then sets T.cmp self.old.items new.items
+            else self.old.items) }
         ensures given { IfErr result (λ refused. refused.given.items ≡ new.items) }
         ensures none { new.items ≡ [] → IsOk result }
-        ensures present { (x : T) → new.items ≡ x ∷ [] → IsTrue (has T.cmp self.old.items x) → IsOk result }
+        ensures present { (x : T) → new.items ≡ x ∷ [] → IsTrue (has T.cmp self.old.items x)
+            → IsOk result }
         ensures roomy { 1 ≤ self.old.spare → IsOk result }
         ensures spare { self.old.spare ≤ self.new.spare + 1 }
-        ensures kept_spare { (x : T) → new.items ≡ x ∷ [] → IsTrue (has T.cmp self.old.items x) → self.old.spare ≤ self.new.spare }
+        ensures kept_spare { (x : T) → new.items ≡ x ∷ [] → IsTrue (has T.cmp self.old.items x)
+            → self.old.spare ≤ self.new.spare }
     {
         let Some(item) = new.pop() else {
             return Ok(());
@@ -182,7 +199,8 @@ impl<T: Ord> SortedVectorSet<T> {
     fn extend_with_many(&mut self, mut new: Vec<T>) -> Result<(), Refused<Vec<T>>>
     where
         T: Drop,
-        ensures items { self.new.items ≡ (if is_ok result then sets T.cmp self.old.items new.items else self.old.items) }
+        ensures items { self.new.items ≡ (if is_ok result then sets T.cmp self.old.items new.items
+            else self.old.items) }
         ensures given { IfErr result (λ refused. IsPermutation new.items refused.given.items) }
     {
         if new.sort().is_err() {
@@ -205,7 +223,8 @@ impl<T: Ord> SortedVectorSet<T> {
     fn place_under(&self, new: &[T]) -> usize
         requires { IsSorted T.cmp new.now }
         ensures in_range { result ≤ length self.now.items }
-        ensures stays { (l : List T) → sets T.cmp (take result self.now.items ++ l) new.now ≡ take result self.now.items ++ sets T.cmp l new.now }
+        ensures stays { (l : List T) → sets T.cmp (take result self.now.items ++ l) new.now
+            ≡ take result self.now.items ++ sets T.cmp l new.now }
     {
         let Some(first) = new.first() else {
             return self.items.len();
@@ -216,11 +235,13 @@ impl<T: Ord> SortedVectorSet<T> {
         }
     }
 
-    // Makes room for new, and takes the items out that don't stay in front of it. All growth is here.
+    // Makes room for new, and takes the items out that don't stay in front of it. All growth is
+    // here.
     fn open_for(&mut self, new: &[T]) -> Option<Vec<T>>
         requires { IsSorted T.cmp new.now }
         ensures parts { IfSome result (λ tail. self.old.items ≡ self.new.items ++ tail.items) }
-        ensures stays { IfSome result (λ _. (l : List T) → sets T.cmp (self.new.items ++ l) new.now ≡ self.new.items ++ sets T.cmp l new.now) }
+        ensures stays { IfSome result (λ _. (l : List T)
+            → sets T.cmp (self.new.items ++ l) new.now ≡ self.new.items ++ sets T.cmp l new.now) }
         ensures ascending { IfSome result (λ _. IsStrictlySortedBy T.cmp self.old.items) }
         ensures room { IfSome result (λ tail. vec_len tail + length new.now ≤ self.new.spare) }
         ensures none { IfNone result (self.new.items ≡ self.old.items) }
@@ -240,7 +261,8 @@ impl<T: Ord> SortedVectorSet<T> {
     where
         T: Drop,
         requires ascending { IsStrictlySortedBy T.cmp new.items }
-        requires whole { IsStrictlySortedBy T.cmp (self.old.items ++ sets T.cmp tail.items new.items) }
+        requires whole { IsStrictlySortedBy T.cmp
+            (self.old.items ++ sets T.cmp tail.items new.items) }
         requires room { vec_len tail + vec_len new ≤ self.old.spare }
         ensures { self.new.items ≡ self.old.items ++ sets T.cmp tail.items new.items }
     {

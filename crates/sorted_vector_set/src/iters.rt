@@ -12,8 +12,8 @@ use std::slice::Iter;
 use std::vec::IntoIter;
 
 impl<T: Ord> SortedVectorSet<T> {
-    /// The items in ascending order, from both ends, with their exact number. Made and stepped in O(1) time and
-    /// without memory.
+    /// The items in ascending order, from both ends, with their exact number. Made and stepped in
+    /// O(1) time and without memory.
     pub fn iter(&self) -> Iter<'_, T>
         ensures rest { iter_rest result ≡ self.now.items }
         ensures bound { length (iter_rest result) < 2 ^ 64 }
@@ -30,7 +30,8 @@ impl<'a, T: Ord> IntoIterator for &'a SortedVectorSet<T> {
 
     type IntoIter = Iter<'a, T>;
 
-    ghost into_iter_gives = { λ s r. (iter_rest r ≡ s.now.items) × (length (iter_rest r) < 2 ^ 64) × IsStrictlySortedBy T.cmp s.now.items × IterYieldsInOrder T × IterYieldsInReverse T };
+    ghost into_iter_gives = { λ s r. (iter_rest r ≡ s.now.items) × (length (iter_rest r) < 2 ^ 64)
+        × IsStrictlySortedBy T.cmp s.now.items × IterYieldsInOrder T × IterYieldsInReverse T };
 
     fn into_iter(self) -> Iter<'a, T> {
         self.items.iter()
@@ -42,7 +43,12 @@ impl<T: Ord + Drop> IntoIterator for SortedVectorSet<T> {
 
     type IntoIter = IntoIter<T>;
 
-    ghost into_iter_gives = { λ s r. (into_iter_items r ≡ s.items) × (into_iter_len r ≡ length s.items) × (into_iter_len r < 2 ^ 64) × IsStrictlySortedBy T.cmp s.items × EveryRun (into_iter_steps {X = T} {Z = Global}) (λ p. ItemsAre p (into_iter_items p.from)) × EveryRun (into_iter_steps_back {X = T} {Z = Global}) (λ p. ItemsAreReversed p (into_iter_items p.from)) };
+    ghost into_iter_gives = { λ s r. (into_iter_items r ≡ s.items)
+        × (into_iter_len r ≡ length s.items) × (into_iter_len r < 2 ^ 64)
+        × IsStrictlySortedBy T.cmp s.items × EveryRun (into_iter_steps {X = T} {Z = Global})
+        (λ p. ItemsAre p (into_iter_items p.from))
+        × EveryRun (into_iter_steps_back {X = T} {Z = Global})
+        (λ p. ItemsAreReversed p (into_iter_items p.from)) };
 
     fn into_iter(self) -> IntoIter<T> {
         self.items.into_iter()

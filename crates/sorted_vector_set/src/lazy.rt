@@ -23,12 +23,14 @@ pub use shared::Intersection;
 pub(crate) type TwoSets<'a, T> = Sides<Iter<'a, T>, Iter<'a, T>>;
 
 impl<T: Ord> SortedVectorSet<T> {
-    /// The items of this set to which no item of `other` is equal, lazily and in ascending order. Made in O(1) time, as
-    /// are the other three; together the items of any of them take O(n + m) comparisons. None takes memory.
+    /// The items of this set to which no item of `other` is equal, lazily and in ascending order.
+    /// Made in O(1) time, as are the other three; together the items of any of them take O(n + m)
+    /// comparisons. None takes memory.
     pub fn difference<'a>(&'a self, other: &'a Self) -> Difference<'a, T>
         ensures own { result.own ≡ self.now.items }
         ensures other { result.other ≡ other.now.items }
-        ensures items { difference_to_come T.cmp result ≡ difference T.cmp self.now.items other.now.items }
+        ensures items { difference_to_come T.cmp result
+            ≡ difference T.cmp self.now.items other.now.items }
         ensures ascending { IsStrictlySortedBy T.cmp (difference_to_come T.cmp result) }
     {
         Difference {
@@ -36,11 +38,13 @@ impl<T: Ord> SortedVectorSet<T> {
         }
     }
 
-    /// The items of either set to which no item of the other is equal, lazily and in ascending order.
+    /// The items of either set to which no item of the other is equal, lazily and in ascending
+    /// order.
     pub fn symmetric_difference<'a>(&'a self, other: &'a Self) -> SymmetricDifference<'a, T>
         ensures own { result.own ≡ self.now.items }
         ensures other { result.other ≡ other.now.items }
-        ensures items { symmetric_difference_to_come T.cmp result ≡ symmetric_difference T.cmp self.now.items other.now.items }
+        ensures items { symmetric_difference_to_come T.cmp result
+            ≡ symmetric_difference T.cmp self.now.items other.now.items }
         ensures ascending { IsStrictlySortedBy T.cmp (symmetric_difference_to_come T.cmp result) }
     {
         SymmetricDifference {
@@ -52,7 +56,8 @@ impl<T: Ord> SortedVectorSet<T> {
     pub fn intersection<'a>(&'a self, other: &'a Self) -> Intersection<'a, T>
         ensures own { result.own ≡ self.now.items }
         ensures other { result.other ≡ other.now.items }
-        ensures items { intersection_to_come T.cmp result ≡ intersection T.cmp self.now.items other.now.items }
+        ensures items { intersection_to_come T.cmp result
+            ≡ intersection T.cmp self.now.items other.now.items }
         ensures ascending { IsStrictlySortedBy T.cmp (intersection_to_come T.cmp result) }
     {
         Intersection {
@@ -60,7 +65,8 @@ impl<T: Ord> SortedVectorSet<T> {
         }
     }
 
-    /// The items of either set, lazily, in ascending order and each once; of two equal items that of `other`.
+    /// The items of either set, lazily, in ascending order and each once; of two equal items that
+    /// of `other`.
     pub fn union<'a>(&'a self, other: &'a Self) -> Union<'a, T>
         ensures own { result.own ≡ self.now.items }
         ensures other { result.other ≡ other.now.items }

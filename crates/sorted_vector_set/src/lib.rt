@@ -1,7 +1,8 @@
 //! A set whose items lie in order in one vector.
 //!
-//! Look-ups are a binary search, and items in order are put in at the end without one. Putting an item in before
-//! others, or taking one out, moves those behind it; many new items at once are merged in.
+//! Look-ups are a binary search, and items in order are put in at the end without one. Putting an
+//! item in before others, or taking one out, moves those behind it; many new items at once are
+//! merged in.
 #![tactic(auto)]
 
 #[cfg(test)]

@@ -13,7 +13,8 @@ impl<T: Ord> SortedVectorSet<T> {
         self.search(q).is_ok()
     }
 
-    /// The item that is equal to `q`, or `None` where there is none, in O(log n) comparisons and without memory.
+    /// The item that is equal to `q`, or `None` where there is none, in O(log n) comparisons and
+    /// without memory.
     pub fn get(&self, q: &T) -> Option<&T>
         ensures { option_copied result ≡ find T.cmp self.now.items q.now }
     {
@@ -37,7 +38,8 @@ impl<T: Ord> SortedVectorSet<T> {
         self.items.last()
     }
 
-    /// Takes the greatest item out, or answers `None` where the set is empty. It takes O(1) time and no memory.
+    /// Takes the greatest item out, or answers `None` where the set is empty. It takes O(1) time
+    /// and no memory.
     pub fn pop_last(&mut self) -> Option<T>
         ensures items { self.old.items ≡ self.new.items ++ option_to_list result }
         ensures none { IfNone result (self.old.items ≡ []) }

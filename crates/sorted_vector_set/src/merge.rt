@@ -25,9 +25,11 @@ fn side<T: Ord>(left: &VecDeque<T>, right: &VecDeque<T>) -> Ordering
 // The least item of both. Of two equal items it is that of `right`, and the other is dropped.
 fn next_of<T: Ord + Drop>(left: &mut VecDeque<T>, right: &mut VecDeque<T>) -> Option<T>
     requires { IsStrictlySortedBy T.cmp right.old.items }
-    ensures merged { sets T.cmp left.old.items right.old.items ≡ option_to_list result ++ sets T.cmp left.new.items right.new.items }
+    ensures merged { sets T.cmp left.old.items right.old.items
+        ≡ option_to_list result ++ sets T.cmp left.new.items right.new.items }
     ensures ascending { IsStrictlySortedBy T.cmp right.new.items }
-    ensures len { deque_len left.new + deque_len right.new + length (option_to_list result) ≤ deque_len left.old + deque_len right.old }
+    ensures len { deque_len left.new + deque_len right.new + length (option_to_list result)
+        ≤ deque_len left.old + deque_len right.old }
     ensures none { IfNone result ((left.new.items ≡ []) × (right.new.items ≡ [])) }
 {
     match side(left, right) {
@@ -40,7 +42,8 @@ fn next_of<T: Ord + Drop>(left: &mut VecDeque<T>, right: &mut VecDeque<T>) -> Op
     }
 }
 
-// Puts the items of both behind those of `merged`, which has room for them. Of two equal items that of `right` stays.
+// Puts the items of both behind those of `merged`, which has room for them. Of two equal items that
+// of `right` stays.
 pub(crate) fn merge<T: Ord + Drop>(left: Vec<T>, right: Vec<T>, merged: &mut Vec<T>)
     requires ascending { IsStrictlySortedBy T.cmp right.items }
     requires room { vec_len merged.old + vec_len left + vec_len right ≤ vec_capacity merged.old }
@@ -64,7 +67,8 @@ fn move_behind<T: Drop>(mut right: Vec<T>, merged: &mut Vec<T>)
 // The same of two queues.
 fn merge_queues<T: Ord + Drop>(mut left: VecDeque<T>, mut right: VecDeque<T>, merged: &mut Vec<T>)
     requires ascending { IsStrictlySortedBy T.cmp right.items }
-    requires room { vec_len merged.old + deque_len left + deque_len right ≤ vec_capacity merged.old }
+    requires room { vec_len merged.old + deque_len left + deque_len right
+        ≤ vec_capacity merged.old }
     ensures { merged.new.items ≡ merged.old.items ++ sets T.cmp left.items right.items }
 {
     while let Some(item) = next_of(&mut left, &mut right) {

@@ -40,7 +40,8 @@ impl<T: Ord> SortedVectorSet<T> {
 
     pub(crate) fn insert_at(&mut self, at: usize, value: T) -> Result<(), Refused<T>>
         requires { IsMissing (λ x. x) T.cmp self.old.items value at }
-        ensures items { self.new.items ≡ (if is_ok result then list_insert self.old.items at value else self.old.items) }
+        ensures items { self.new.items ≡ (if is_ok result then list_insert self.old.items at value
+            else self.old.items) }
         ensures given { IfErr result (λ refused. refused.given ≡ value) }
         ensures roomy { 1 ≤ self.old.spare → IsOk result }
         ensures spare { self.old.spare ≤ self.new.spare + (if is_ok result then 1 else 0) }

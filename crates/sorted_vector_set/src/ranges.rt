@@ -16,12 +16,13 @@ use std::ops::Bound;
 use std::slice::Iter;
 
 impl<T: Ord> SortedVectorSet<T> {
-    /// The items that lie within `low` and `high`, in ascending order and from both ends. The bounds are in order: the
-    /// low item is at most the high one, and they aren't equal and both excluded. It takes O(log n) comparisons and no
-    /// memory.
+    /// The items that lie within `low` and `high`, in ascending order and from both ends. The
+    /// bounds are in order: the low item is at most the high one, and they aren't equal and both
+    /// excluded. It takes O(log n) comparisons and no memory.
     pub fn range(&self, low: Bound<&T>, high: Bound<&T>) -> Iter<'_, T>
         requires { AreInOrder T.cmp (bound_map (λ x. x.now) low) (bound_map (λ x. x.now) high) }
-        ensures rest { iter_rest result ≡ items_within T.cmp (bound_map (λ x. x.now) low.entry) (bound_map (λ x. x.now) high.entry) self.now.items }
+        ensures rest { iter_rest result ≡ items_within T.cmp (bound_map (λ x. x.now) low.entry)
+            (bound_map (λ x. x.now) high.entry) self.now.items }
         ensures bound { length (iter_rest result) < 2 ^ 64 }
         ensures ascending { IsStrictlySortedBy T.cmp (iter_rest result) }
         ensures runs { IterYieldsInOrder T }
@@ -34,10 +35,13 @@ impl<T: Ord> SortedVectorSet<T> {
 
     /// Keeps the items below `q`, and answers a set of the others.
     ///
-    /// Where memory is short the set stays. It takes O(log n) comparisons, and time for the items that leave.
+    /// Where memory is short the set stays. It takes O(log n) comparisons, and time for the items
+    /// that leave.
     pub fn split_off(&mut self, alloc: Global, q: &T) -> Result<Self, NoMemory>
-        ensures below { OnOk result (self.new.items ≡ filter (λ x. is_lt (T.cmp x q.now)) self.old.items) }
-        ensures from { IfOk result (λ rest. rest.items ≡ filter (λ x. not (is_lt (T.cmp x q.now))) self.old.items) }
+        ensures below { OnOk result (self.new.items
+            ≡ filter (λ x. is_lt (T.cmp x q.now)) self.old.items) }
+        ensures from { IfOk result (λ rest. rest.items
+            ≡ filter (λ x. not (is_lt (T.cmp x q.now))) self.old.items) }
         ensures err { OnErr result (self.new.items ≡ self.old.items) }
     {
         // The items that leave take the allocator of the set, which is the only one.
@@ -73,7 +77,8 @@ impl<T: Ord> SortedVectorSet<T> {
 
     // The place of the first item that isn't below the low bound.
     fn start_of(&self, low: Bound<&T>) -> usize
-        ensures { IsCutAt (λ x. is_before T.cmp (bound_map (λ y. y.now) low.entry) x) self.now.items result }
+        ensures { IsCutAt (λ x. is_before T.cmp (bound_map (λ y. y.now) low.entry) x) self.now.items
+            result }
     {
         match low {
             Bound::Included(x) => self.place_before(x),
@@ -84,7 +89,8 @@ impl<T: Ord> SortedVectorSet<T> {
 
     // The place of the first item that is above the high bound.
     fn end_of(&self, high: Bound<&T>) -> usize
-        ensures { IsCutAt (λ x. is_within T.cmp (bound_map (λ y. y.now) high.entry) x) self.now.items result }
+        ensures { IsCutAt (λ x. is_within T.cmp (bound_map (λ y. y.now) high.entry) x)
+            self.now.items result }
     {
         match high {
             Bound::Included(x) => self.place_after(x),

@@ -7,8 +7,8 @@ ghost use Rattle.sorted_iter.specs.Subsets.{are_disjoint, is_within, is_around};
 use crate::set::SortedVectorSet;
 
 impl<T: Ord> SortedVectorSet<T> {
-    /// Whether no item has an equal in `other`. It stops at the first two equal items: O(n + m) comparisons. It takes no
-    /// memory, as do the other two.
+    /// Whether no item has an equal in `other`. It stops at the first two equal items: O(n + m)
+    /// comparisons. It takes no memory, as do the other two.
     pub fn is_disjoint(&self, other: &Self) -> bool
         ensures { result ≡ are_disjoint T.cmp self.now.items other.now.items }
     {
@@ -16,8 +16,9 @@ impl<T: Ord> SortedVectorSet<T> {
         shared.next().is_none()
     }
 
-    /// Whether each item has an equal in `other`. It stops at the first item that has none. The items are looked up in
-    /// `other` where that takes fewer comparisons than passing over both sets: the lesser of O(n + m) and O(n log m).
+    /// Whether each item has an equal in `other`. It stops at the first item that has none. The
+    /// items are looked up in `other` where that takes fewer comparisons than passing over both
+    /// sets: the lesser of O(n + m) and O(n log m).
     pub fn is_subset(&self, other: &Self) -> bool
         ensures { result ≡ is_within T.cmp self.now.items other.now.items }
     {
@@ -31,7 +32,8 @@ impl<T: Ord> SortedVectorSet<T> {
         missing.next().is_none()
     }
 
-    /// Whether each item of `other` has an equal here. It costs what `is_subset` costs with the sets exchanged.
+    /// Whether each item of `other` has an equal here. It costs what `is_subset` costs with the
+    /// sets exchanged.
     pub fn is_superset(&self, other: &Self) -> bool
         ensures { result ≡ is_around T.cmp self.now.items other.now.items }
     {
@@ -39,8 +41,8 @@ impl<T: Ord> SortedVectorSet<T> {
     }
 }
 
-// Whether looking up `few` items among `many` takes fewer comparisons than passing over all of them. It says nothing of
-// what is answered.
+// Whether looking up `few` items among `many` takes fewer comparisons than passing over all of
+// them. It says nothing of what is answered.
 fn is_looking_up_cheaper(few: usize, many: usize) -> bool {
     let search = many.checked_ilog2().map_or(0, |log| log as usize + 1);
     few.saturating_mul(search) < few.saturating_add(many)

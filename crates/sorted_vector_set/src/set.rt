@@ -7,8 +7,8 @@ use element_core::{NoMemory, Refused};
 use std::alloc::Global;
 use std::marker::Model;
 
-/// A set whose items lie in one vector, in ascending order. Equal items may differ in what their comparison
-/// doesn't look at, so each call says which one stays.
+/// A set whose items lie in one vector, in ascending order. Equal items may differ in what their
+/// comparison doesn't look at, so each call says which one stays.
 ///
 /// Its spare is the number of items that it can take without memory.
 #[derive(Drop)]
@@ -24,7 +24,11 @@ impl<T: Ord> Model for SortedVectorSet<T> {
 
     ghost Value = { Content T };
 
-    ghost view = { λ s. record { items = s.items.items; spare = vec_capacity s.items - vec_len s.items } };
+    ghost view = { λ s. record {
+      items = s.items.items;
+      spare
+          = vec_capacity s.items - vec_len s.items;
+    } };
 
     ghost invariant = { λ s. IsStrictlySortedBy T.cmp s.items.items };
 }
@@ -39,8 +43,8 @@ impl<T: Ord> SortedVectorSet<T> {
         }
     }
 
-    /// The empty set with room for `capacity` items, in O(1) time. It takes memory, and is refused where there is
-    /// none.
+    /// The empty set with room for `capacity` items, in O(1) time. It takes memory, and is refused
+    /// where there is none.
     pub fn with_capacity(alloc: Global, capacity: usize) -> Result<Self, NoMemory>
         ensures items { IfOk result (λ s. s.items ≡ []) }
         ensures spare { IfOk result (λ s. capacity ≤ s.spare) }
@@ -81,20 +85,22 @@ impl<T: Ord> SortedVectorSet<T> {
         self.items.is_empty()
     }
 
-    /// Puts `value` in the place of the item that is equal to it, and answers that item. Without one, `value` is put
-    /// in and the answer is `None`.
+    /// Puts `value` in the place of the item that is equal to it, and answers that item. Without
+    /// one, `value` is put in and the answer is `None`.
     ///
-    /// Where memory is short the set stays and `value` comes back. That never happens where an equal item is present
-    /// or the set has spare. It takes O(log n) comparisons and moves the items that are greater; an item above all
-    /// others takes O(1) amortised time.
+    /// Where memory is short the set stays and `value` comes back. That never happens where an
+    /// equal item is present or the set has spare. It takes O(log n) comparisons and moves the
+    /// items that are greater; an item above all others takes O(1) amortised time.
     pub fn replace(&mut self, value: T) -> Result<Option<T>, Refused<T>>
-        ensures items { self.new.items ≡ (if is_ok result then set T.cmp self.old.items value else self.old.items) }
+        ensures items { self.new.items ≡ (if is_ok result then set T.cmp self.old.items value else
+            self.old.items) }
         ensures replaced { IfOk result (λ old. old ≡ find T.cmp self.old.items value) }
         ensures given { IfErr result (λ refused. refused.given ≡ value) }
         ensures present { IsTrue (has T.cmp self.old.items value) → IsOk result }
         ensures roomy { 1 ≤ self.old.spare → IsOk result }
         ensures spare { self.old.spare ≤ self.new.spare + 1 }
-        ensures kept_spare { IsTrue (has T.cmp self.old.items value) → self.old.spare ≤ self.new.spare }
+        ensures kept_spare { IsTrue (has T.cmp self.old.items value)
+            → self.old.spare ≤ self.new.spare }
     {
         match self.place_of(&value) {
             Ok(at) => Ok(Some(self.replace_at(at, value))),
@@ -111,20 +117,22 @@ impl<T: Ord> SortedVectorSet<T> {
     pub fn insert(&mut self, value: T) -> Result<bool, Refused<T>>
     where
         T: Drop,
-        ensures items { self.new.items ≡ (if is_ok result then set T.cmp self.old.items value else self.old.items) }
+        ensures items { self.new.items ≡ (if is_ok result then set T.cmp self.old.items value else
+            self.old.items) }
         ensures inserted { IfOk result (λ new. new ≡ not (has T.cmp self.old.items value)) }
         ensures given { IfErr result (λ refused. refused.given ≡ value) }
         ensures present { IsTrue (has T.cmp self.old.items value) → IsOk result }
         ensures roomy { 1 ≤ self.old.spare → IsOk result }
         ensures spare { self.old.spare ≤ self.new.spare + 1 }
-        ensures kept_spare { IsTrue (has T.cmp self.old.items value) → self.old.spare ≤ self.new.spare }
+        ensures kept_spare { IsTrue (has T.cmp self.old.items value)
+            → self.old.spare ≤ self.new.spare }
     {
         let old = self.replace(value)?;
         Ok(old.is_none())
     }
 
-    /// Takes the item that is equal to `value` out, or answers `None` where there is none, in O(log n) comparisons. The
-    /// items behind it move. It takes no memory.
+    /// Takes the item that is equal to `value` out, or answers `None` where there is none, in O(log
+    /// n) comparisons. The items behind it move. It takes no memory.
     pub fn take(&mut self, value: &T) -> Option<T>
         ensures items { self.new.items ≡ take_out T.cmp self.old.items value.now }
         ensures taken { result ≡ find T.cmp self.old.items value.now }
@@ -136,7 +144,8 @@ impl<T: Ord> SortedVectorSet<T> {
         }
     }
 
-    /// Takes the item that is equal to `value` out, and answers whether there was one. It costs what `take` costs.
+    /// Takes the item that is equal to `value` out, and answers whether there was one. It costs
+    /// what `take` costs.
     pub fn remove(&mut self, value: &T) -> bool
     where
         T: Drop,

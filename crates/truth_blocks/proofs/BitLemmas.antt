@@ -64,6 +64,8 @@ pub one_all : (i : ℕ) → i < 64 → is_one 18446744073709551615 i ≡ true
 unfolding is_one
 one_all i p = let e : bit_at (2 ^ 64 - 1) i ≡ 1 = bit_at_ones 64 i p in rw e refl
 
+pub ruleset bits = (one_and, one_or, one_xor, one_not, one_none, one_all)
+
 by_lt : {P : Type 0} (a b : ℕ) → (a < b → P) → (b ≤ a → P) → P
 by_lt a b f g = elim (cases_lt a b) [ inl k ↦ f k | inr k ↦ g k ]
 

@@ -63,7 +63,7 @@ fn literal_word(from: usize, to: usize, base: usize) -> u64
 }
 
 // What one step does to the words of the stack.
-#[tactic(auto, using(crate::proofs::BitLemmas::one_and, crate::proofs::BitLemmas::one_or, crate::proofs::BitLemmas::one_xor, crate::proofs::BitLemmas::one_not, crate::proofs::BitLemmas::one_none, crate::proofs::BitLemmas::one_all, std::proofs::lemmas::Grind::common_steps))]
+#[tactic(auto, using(crate::proofs::BitLemmas::bits, std::proofs::lemmas::Grind::common_steps))]
 pub(crate) fn apply_step(
     stack: &mut Vec<u64>,
     lines: &[u64],

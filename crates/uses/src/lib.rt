@@ -1,4 +1,5 @@
-//! Callers that use several crates together, as a user would write them. Each is proved from public contracts alone.
+//! Callers that use several crates together, as a user would write them. Each is proved from public
+//! contracts alone.
 #![tactic(auto)]
 
 mod merging;

@@ -41,8 +41,9 @@ where
 
 /// Each value that some input holds, once, ascending. Which of several equal items comes is open.
 ///
-/// The call asks each input for its first item, and makes a heap of those that have one, in O(k) for k inputs. All memory is
-/// taken here, and the call is refused where there is none: `next` takes none.
+/// The call asks each input for its first item, and makes a heap of those that have one, in O(k)
+/// for k inputs. All memory is taken here, and the call is refused where there is none: `next`
+/// takes none.
 ///
 /// Of 1, 4, 9 and 2, 4 and 4, 8, 9 it gives 1, 2, 4, 8, 9.
 pub fn multiway_union<I: SortedIterator, T: IntoIterator<Item = I>>(

@@ -35,8 +35,8 @@ where
         Some(x)
     }
 
-    /// At least as many items as the greatest of the inputs has, and at most as many as all have together. Both count from the
-    /// inputs' own hints and the items in hand, in O(k) for k inputs.
+    /// At least as many items as the greatest of the inputs has, and at most as many as all have
+    /// together. Both count from the inputs' own hints and the items in hand, in O(k) for k inputs.
     fn size_hint(&self) -> (usize, Option<usize>)
         ensures lower { IsWithinCount result.0 (heads_count I.remaining (union_heads self.now)) }
         ensures upper { IfSome result.1 (UpTo (heads_count I.remaining (union_heads self.now))) }

@@ -8,7 +8,8 @@ use crate::multiway::heads::InputHead;
 use crate::multiway::heap::sift_down;
 use std::cmp::Ordering;
 
-/// The item of the first head, which then goes on to its input's next one or leaves. O(log k), and takes no memory.
+/// The item of the first head, which then goes on to its input's next one or leaves. O(log k), and
+/// takes no memory.
 pub(crate) fn take_least<I: Iterator>(heads: &mut Vec<InputHead<I>>) -> Option<I::Item>
 where
     I::Item: Ord + Drop,

@@ -1,4 +1,5 @@
-//! Callers of the union of many streams, each proved to learn what it gets, and lists that people know.
+//! Callers of the union of many streams, each proved to learn what it gets, and lists that people
+//! know.
 #![tactic(auto)]
 
 ghost use Rattle.std.specs.Prelude.{◌≡◌, All, IfOk, List};

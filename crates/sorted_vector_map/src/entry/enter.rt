@@ -9,15 +9,17 @@ use super::{Entry, OccupiedEntry, VacantEntry};
 use crate::map::SortedVectorMap;
 
 impl<K: Ord, V> SortedVectorMap<K, V> {
-    /// The place of `key`: occupied exactly where an equal key is present. It takes O(log n) comparisons, or one for a
-    /// key above all others, and no memory.
+    /// The place of `key`: occupied exactly where an equal key is present. It takes O(log n)
+    /// comparisons, or one for a key above all others, and no memory.
     pub fn entry(&mut self, key: K) -> Entry<'_, K, V>
     where
         K: Drop,
         ensures place { StandsIn self.entry result }
         ensures taken { is_taken result ≡ has (to_key K.cmp) self.old.pairs key }
-        ensures key { HasKey result (unwrap_or (option_map (λ pair. pair.0) (find (to_key K.cmp) self.old.pairs key)) key) }
-        ensures stored { stored result ≡ option_map (λ pair. pair.1) (find (to_key K.cmp) self.old.pairs key) }
+        ensures key { HasKey result (unwrap_or
+            (option_map (λ pair. pair.0) (find (to_key K.cmp) self.old.pairs key)) key) }
+        ensures stored { stored result ≡ option_map (λ pair. pair.1)
+            (find (to_key K.cmp) self.old.pairs key) }
         ensures written { (w : V) → after_writing result w ≡ put K.cmp self.old.pairs key w }
         ensures found { (w : V) → IsTrue (has (to_key K.cmp) (after_writing result w) key) }
         ensures removed { after_removal result ≡ take_out (to_key K.cmp) self.old.pairs key }
@@ -28,7 +30,8 @@ impl<K: Ord, V> SortedVectorMap<K, V> {
         }
     }
 
-    /// The place of the first pair, or `None` where the map is empty. It takes O(1) time and no memory.
+    /// The place of the first pair, or `None` where the map is empty. It takes O(1) time and no
+    /// memory.
     pub fn first_entry(&mut self) -> Option<OccupiedEntry<'_, K, V>>
         ensures* map { sem 𝓛 (lends_or_stays K.row V.row K.Ord self.entry result) }
         ensures none { IfNone result (self.old.pairs ≡ []) }
@@ -38,7 +41,8 @@ impl<K: Ord, V> SortedVectorMap<K, V> {
         self.entry_at(0)
     }
 
-    /// The place of the last pair, or `None` where the map is empty. It takes O(1) time and no memory.
+    /// The place of the last pair, or `None` where the map is empty. It takes O(1) time and no
+    /// memory.
     pub fn last_entry(&mut self) -> Option<OccupiedEntry<'_, K, V>>
         ensures* map { sem 𝓛 (lends_or_stays K.row V.row K.Ord self.entry result) }
         ensures none { IfNone result (self.old.pairs ≡ []) }

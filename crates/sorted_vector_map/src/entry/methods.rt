@@ -21,29 +21,33 @@ impl<'a, K: Ord, V> Entry<'a, K, V> {
 
     /// The stored value for writing, or `default`, which is put in at the given key.
     ///
-    /// Where memory is short the map stays, and the key and `default` come back. That never happens where the entry is
-    /// occupied or the map has spare. Putting in costs what `SortedVectorMap::insert` costs, without the search.
+    /// Where memory is short the map stays, and the key and `default` come back. That never happens
+    /// where the entry is occupied or the map has spare. Putting in costs what
+    /// `SortedVectorMap::insert` costs, without the search.
     pub fn or_insert(self, default: V) -> Result<&'a mut V, Refused<(K, V)>>
     where
         V: Drop,
         ensures* writes_back { sem 𝓛 (writes_through_if_ok K.row V.row self.entry result) }
         ensures value { IfOk result (λ lent. lent.now ≡ unwrap_or (stored self.entry) default) }
-        ensures given { IfErr result (λ refused. HasKey self.entry refused.given.0 × (refused.given.1 ≡ default)) }
+        ensures given { IfErr result (λ refused. HasKey self.entry refused.given.0
+            × (refused.given.1 ≡ default)) }
         ensures present { is_taken self.entry ≡ true → IsOk result }
         ensures roomy { 1 ≤ (home self.entry).now.spare → IsOk result }
     {
         self.or_insert_with(|| default)
     }
 
-    /// The stored value for writing, or the answer of `default`, which is put in at the given key. `default` is called
-    /// exactly where the entry is vacant.
+    /// The stored value for writing, or the answer of `default`, which is put in at the given key.
+    /// `default` is called exactly where the entry is vacant.
     ///
     /// It is refused where `or_insert` is, and costs the same.
     pub fn or_insert_with<F: FnOnce() -> V>(self, default: F) -> Result<&'a mut V, Refused<(K, V)>>
         requires { is_taken self ≡ false → F.pre default }
         ensures* writes_back { sem 𝓛 (writes_through_if_ok K.row V.row self.entry result) }
-        ensures value { IfOk result (λ lent. UnwrapsOrElse (stored self.entry) (F.post default) lent.now) }
-        ensures given { IfErr result (λ refused. HasKey self.entry refused.given.0 × F.post default refused.given.1) }
+        ensures value { IfOk result (λ lent. UnwrapsOrElse (stored self.entry)
+            (F.post default) lent.now) }
+        ensures given { IfErr result (λ refused. HasKey self.entry refused.given.0
+            × F.post default refused.given.1) }
         ensures present { is_taken self.entry ≡ true → IsOk result }
         ensures roomy { 1 ≤ (home self.entry).now.spare → IsOk result }
     {
@@ -60,8 +64,10 @@ impl<'a, K: Ord, V> Entry<'a, K, V> {
     where
         V: Default,
         ensures* writes_back { sem 𝓛 (writes_through_if_ok K.row V.row self.entry result) }
-        ensures value { IfOk result (λ lent. UnwrapsOrElse (stored self.entry) V.is_default lent.now) }
-        ensures given { IfErr result (λ refused. HasKey self.entry refused.given.0 × V.is_default refused.given.1) }
+        ensures value { IfOk result (λ lent. UnwrapsOrElse (stored self.entry) V.is_default
+            lent.now) }
+        ensures given { IfErr result (λ refused. HasKey self.entry refused.given.0
+            × V.is_default refused.given.1) }
         ensures present { is_taken self.entry ≡ true → IsOk result }
         ensures roomy { 1 ≤ (home self.entry).now.spare → IsOk result }
     {
@@ -71,7 +77,8 @@ impl<'a, K: Ord, V> Entry<'a, K, V> {
         }
     }
 
-    /// Calls `f` on the stored value, exactly where the entry is occupied, and answers the entry. It takes no memory.
+    /// Calls `f` on the stored value, exactly where the entry is occupied, and answers the entry.
+    /// It takes no memory.
     pub fn and_modify<F: FnOnce(&mut V)>(self, f: F) -> Entry<'a, K, V>
         requires { (v : MutBor V) → stored self ≡ Some v.now → F.pre f v }
         ensures place { IsSamePlace self.entry result }

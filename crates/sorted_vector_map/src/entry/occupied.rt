@@ -7,7 +7,8 @@ use super::OccupiedEntry;
 use std::mem::replace;
 
 impl<'a, K: Ord, V> OccupiedEntry<'a, K, V> {
-    /// The stored key. It takes O(1) time and no memory, as do the other calls that take nothing out.
+    /// The stored key. It takes O(1) time and no memory, as do the other calls that take nothing
+    /// out.
     pub fn key(&self) -> &K
         ensures { HasKey (Occupied self.now) result.now }
     {
@@ -52,13 +53,15 @@ impl<'a, K: Ord, V> OccupiedEntry<'a, K, V> {
         ensures replaced { stored (Occupied self.old) ≡ Some result }
         ensures stored { stored (Occupied self.new) ≡ Some value }
         ensures place { IsSamePlace (Occupied self.old) (Occupied self.new) }
-        ensures pairs { (home (Occupied self.new)).now.pairs ≡ after_writing (Occupied self.old) value }
+        ensures pairs { (home (Occupied self.new)).now.pairs
+            ≡ after_writing (Occupied self.old) value }
     {
         let stored = self.get_mut();
         replace(stored, value)
     }
 
-    /// Takes the stored pair out. Those behind it move, in time for their number. It takes no memory.
+    /// Takes the stored pair out. Those behind it move, in time for their number. It takes no
+    /// memory.
     pub fn remove_entry(self) -> (K, V)
         ensures key { HasKey (Occupied self.entry) result.0 }
         ensures value { stored (Occupied self.entry) ≡ Some result.1 }
@@ -69,7 +72,8 @@ impl<'a, K: Ord, V> OccupiedEntry<'a, K, V> {
         self.map.remove_at(here)
     }
 
-    /// Takes the stored pair out and answers its value. It costs what `remove_entry` costs, and takes no memory.
+    /// Takes the stored pair out and answers its value. It costs what `remove_entry` costs, and
+    /// takes no memory.
     pub fn remove(self) -> V
     where
         K: Drop,

@@ -1,4 +1,5 @@
-//! How entries are shown: an occupied one as the map of its pair, a vacant one as the set of its key.
+//! How entries are shown: an occupied one as the map of its pair, a vacant one as the set of its
+//! key.
 use super::{Entry, OccupiedEntry, VacantEntry};
 use std::fmt::{Debug, Formatter, Result, Write};
 

@@ -24,12 +24,14 @@ impl<'a, K: Ord, V> VacantEntry<'a, K, V> {
 
     /// Puts `value` in at the given key, and answers it for writing.
     ///
-    /// Where memory is short the map stays, and the key and `value` come back; that never happens where the map has
-    /// spare. The pairs of greater keys move, in time for their number; no key is searched for.
+    /// Where memory is short the map stays, and the key and `value` come back; that never happens
+    /// where the map has spare. The pairs of greater keys move, in time for their number; no key is
+    /// searched for.
     pub fn insert(self, value: V) -> Result<&'a mut V, Refused<(K, V)>>
         ensures* writes_back { sem 𝓛 (writes_through_if_ok K.row V.row (Vacant self.entry) result) }
         ensures value { IfOk result (λ lent. lent.now ≡ value) }
-        ensures given { IfErr result (λ refused. HasKey (Vacant self.entry) refused.given.0 × (refused.given.1 ≡ value)) }
+        ensures given { IfErr result (λ refused. HasKey (Vacant self.entry) refused.given.0
+            × (refused.given.1 ≡ value)) }
         ensures roomy { 1 ≤ (home (Vacant self.entry)).now.spare → IsOk result }
     {
         let VacantEntry { map, key, at, .. } = self;

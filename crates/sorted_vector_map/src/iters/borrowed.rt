@@ -10,7 +10,8 @@ use std::slice;
 
 /// The pairs of a map that are still to come.
 ///
-/// It gives them from both ends, in O(1) time each and without memory, and its hint is their exact number.
+/// It gives them from both ends, in O(1) time each and without memory, and its hint is their exact
+/// number.
 #[derive(Drop)]
 pub struct Iter<'map, K, V> {
     pairs: slice::Iter<'map, (K, V)>,
@@ -73,7 +74,8 @@ impl<'map, K, V> ExactSizeIterator for Iter<'map, K, V> {
 
 /// The keys of a map that are still to come.
 ///
-/// It gives them from both ends, in O(1) time each and without memory, and its hint is their exact number.
+/// It gives them from both ends, in O(1) time each and without memory, and its hint is their exact
+/// number.
 #[derive(Drop)]
 pub struct Keys<'map, K, V> {
     pairs: Iter<'map, K, V>,
@@ -125,7 +127,8 @@ impl<'map, K, V> DoubleEndedIterator for Keys<'map, K, V> {
 
 /// The values of a map that are still to come.
 ///
-/// It gives them from both ends, in O(1) time each and without memory, and its hint is their exact number.
+/// It gives them from both ends, in O(1) time each and without memory, and its hint is their exact
+/// number.
 #[derive(Drop)]
 pub struct Values<'map, K, V> {
     pairs: Iter<'map, K, V>,

@@ -12,8 +12,8 @@ use std::marker::Model;
 
 /// The items to come of either set to which no item of the other is equal, ascending.
 ///
-/// It is made by [`symmetric_difference`](crate::SortedVectorSet::symmetric_difference). An item takes as many comparisons as items are passed
-/// over for it, and no memory.
+/// It is made by [`symmetric_difference`](crate::SortedVectorSet::symmetric_difference). An item
+/// takes as many comparisons as items are passed over for it, and no memory.
 #[derive(Drop)]
 #[must_use = "a set operation is lazy and does nothing until it is asked"]
 pub struct SymmetricDifference<'a, T: Ord> {
@@ -46,9 +46,15 @@ impl<'a, T: Ord> Iterator for SymmetricDifference<'a, T> {
     }
 
     fn size_hint(&self) -> (usize, Option<usize>)
-        ensures lower { IsWithinCount result.0 (item_count (symmetric_difference_to_come T.cmp) self.now) }
-        ensures upper { IfSome result.1 (UpTo (item_count (symmetric_difference_to_come T.cmp) self.now)) }
-        ensures lengths { result ≡ (0, sum_where_known (Some (length self.now.own)) (Some (length self.now.other))) }
+        ensures lower { IsWithinCount result.0
+            (item_count (symmetric_difference_to_come T.cmp) self.now) }
+        ensures upper { IfSome result.1 (UpTo
+            (item_count (symmetric_difference_to_come T.cmp) self.now)) }
+        ensures lengths { result ≡ (
+          0,
+          sum_where_known (Some (length self.now.own))
+              (Some (length self.now.other)),
+        ) }
     {
         let own = count_left(&self.sides.left);
         let other = count_left(&self.sides.right);

@@ -11,10 +11,11 @@ use crate::lazy::{TwoSets, count_left, sum_of};
 use sorted_iter::Wants;
 use std::marker::Model;
 
-/// The items of either set that are to come, ascending and each once; of two equal items that of the other set.
+/// The items of either set that are to come, ascending and each once; of two equal items that of
+/// the other set.
 ///
-/// It is made by [`union`](crate::SortedVectorSet::union). An item takes as many comparisons as items are passed
-/// over for it, and no memory.
+/// It is made by [`union`](crate::SortedVectorSet::union). An item takes as many comparisons as
+/// items are passed over for it, and no memory.
 #[derive(Drop)]
 #[must_use = "a set operation is lazy and does nothing until it is asked"]
 pub struct Union<'a, T: Ord> {
@@ -49,7 +50,8 @@ impl<'a, T: Ord> Iterator for Union<'a, T> {
     fn size_hint(&self) -> (usize, Option<usize>)
         ensures lower { IsWithinCount result.0 (item_count (union_to_come T.cmp) self.now) }
         ensures upper { IfSome result.1 (UpTo (item_count (union_to_come T.cmp) self.now)) }
-        ensures lengths { result ≡ union_hint (exactly (length self.now.other)) (exactly (length self.now.own)) }
+        ensures lengths { result ≡ union_hint (exactly (length self.now.other))
+            (exactly (length self.now.own)) }
     {
         let own = count_left(&self.sides.right);
         let other = count_left(&self.sides.left);

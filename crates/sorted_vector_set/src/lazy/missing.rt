@@ -13,8 +13,8 @@ use std::marker::Model;
 
 /// The items to come of a set to which no item of the other set is equal, ascending.
 ///
-/// It is made by [`difference`](crate::SortedVectorSet::difference). An item takes as many comparisons as items are passed
-/// over for it, and no memory.
+/// It is made by [`difference`](crate::SortedVectorSet::difference). An item takes as many
+/// comparisons as items are passed over for it, and no memory.
 #[derive(Drop)]
 #[must_use = "a set operation is lazy and does nothing until it is asked"]
 pub struct Difference<'a, T: Ord> {
@@ -49,7 +49,8 @@ impl<'a, T: Ord> Iterator for Difference<'a, T> {
     fn size_hint(&self) -> (usize, Option<usize>)
         ensures lower { IsWithinCount result.0 (item_count (difference_to_come T.cmp) self.now) }
         ensures upper { IfSome result.1 (UpTo (item_count (difference_to_come T.cmp) self.now)) }
-        ensures lengths { result ≡ difference_hint (exactly (length self.now.own)) (exactly (length self.now.other)) }
+        ensures lengths { result ≡ difference_hint (exactly (length self.now.own))
+            (exactly (length self.now.other)) }
     {
         let own = count_left(&self.sides.left);
         let other = count_left(&self.sides.right);

@@ -3,7 +3,7 @@ use Rattle.ordered_lists.specs.Lists.{union}
 use Rattle.ordered_lists.proofs.WalkLemmas.{walk-union}
 use Rattle.sorted_iter.specs.Streams.{union_sides}
 use Rattle.sorted_iter.proofs.CopyLemmas.{copy-of}
-use Rattle.sorted_iter.proofs.union.Union.try_clone.Goals as goal
+use Rattle.sorted_iter.proofs.streams.Union.try_clone.Goals as goal
 
 pub returns : goal.returns
 returns g c =

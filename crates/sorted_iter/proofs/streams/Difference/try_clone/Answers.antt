@@ -3,7 +3,7 @@ use Rattle.ordered_lists.specs.Lists.{difference}
 use Rattle.ordered_lists.proofs.WalkLemmas.{walk-difference}
 use Rattle.sorted_iter.specs.Streams.{difference_sides}
 use Rattle.sorted_iter.proofs.CopyLemmas.{copy-of}
-use Rattle.sorted_iter.proofs.difference.Difference.try_clone.Goals as goal
+use Rattle.sorted_iter.proofs.streams.Difference.try_clone.Goals as goal
 
 pub returns : goal.returns
 returns g c =

@@ -3,7 +3,7 @@ use Rattle.ordered_lists.specs.Lists.{difference}
 use Rattle.ordered_lists.proofs.WalkLemmas.{walk-difference}
 use Rattle.sorted_iter.specs.Hints.{difference_hint}
 use Rattle.sorted_iter.proofs.HintLemmas.{hint-of, difference-bounds, difference-length}
-use Rattle.sorted_iter.proofs.difference.DifferenceIterator.size_hint.Goals as goal
+use Rattle.sorted_iter.proofs.streams.DifferenceIterator.size_hint.Goals as goal
 
 pub returns-clause-table : goal.returns-clause-table
 returns-clause-table g c =

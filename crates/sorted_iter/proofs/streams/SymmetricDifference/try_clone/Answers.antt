@@ -3,7 +3,7 @@ use Rattle.ordered_lists.specs.Lists.{symmetric_difference}
 use Rattle.ordered_lists.proofs.WalkLemmas.{walk-symmetric_difference}
 use Rattle.sorted_iter.specs.Streams.{symmetric_difference_sides}
 use Rattle.sorted_iter.proofs.CopyLemmas.{copy-of}
-use Rattle.sorted_iter.proofs.symmetric_difference.SymmetricDifference.try_clone.Goals as goal
+use Rattle.sorted_iter.proofs.streams.SymmetricDifference.try_clone.Goals as goal
 
 pub returns : goal.returns
 returns g c =

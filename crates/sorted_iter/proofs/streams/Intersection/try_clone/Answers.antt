@@ -3,7 +3,7 @@ use Rattle.ordered_lists.specs.Lists.{intersection}
 use Rattle.ordered_lists.proofs.WalkLemmas.{walk-intersection}
 use Rattle.sorted_iter.specs.Streams.{intersection_sides}
 use Rattle.sorted_iter.proofs.CopyLemmas.{copy-of}
-use Rattle.sorted_iter.proofs.intersection.Intersection.try_clone.Goals as goal
+use Rattle.sorted_iter.proofs.streams.Intersection.try_clone.Goals as goal
 
 pub returns : goal.returns
 returns g c =

@@ -3,7 +3,7 @@ use Rattle.ordered_lists.specs.Lists.{symmetric_difference}
 use Rattle.ordered_lists.proofs.WalkLemmas.{walk-symmetric_difference}
 use Rattle.sorted_iter.specs.Hints.{symmetric_difference_hint}
 use Rattle.sorted_iter.proofs.HintLemmas.{hint-of, apart-bounds, apart-length}
-use Rattle.sorted_iter.proofs.symmetric_difference.SymmetricDifferenceIterator.size_hint.Goals as goal
+use Rattle.sorted_iter.proofs.streams.SymmetricDifferenceIterator.size_hint.Goals as goal
 
 pub returns-clause-table : goal.returns-clause-table
 returns-clause-table g c =

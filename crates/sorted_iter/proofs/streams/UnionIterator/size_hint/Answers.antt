@@ -3,7 +3,7 @@ use Rattle.ordered_lists.specs.Lists.{union}
 use Rattle.ordered_lists.proofs.WalkLemmas.{walk-union}
 use Rattle.sorted_iter.specs.Hints.{union_hint}
 use Rattle.sorted_iter.proofs.HintLemmas.{hint-of, union-bounds, union-length}
-use Rattle.sorted_iter.proofs.union.UnionIterator.size_hint.Goals as goal
+use Rattle.sorted_iter.proofs.streams.UnionIterator.size_hint.Goals as goal
 
 pub returns-clause-table : goal.returns-clause-table
 returns-clause-table g c =

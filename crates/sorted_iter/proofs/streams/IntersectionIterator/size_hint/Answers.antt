@@ -3,7 +3,7 @@ use Rattle.ordered_lists.specs.Lists.{intersection}
 use Rattle.ordered_lists.proofs.WalkLemmas.{walk-intersection}
 use Rattle.sorted_iter.specs.Hints.{intersection_hint}
 use Rattle.sorted_iter.proofs.HintLemmas.{hint-of, intersection-bounds, intersection-length}
-use Rattle.sorted_iter.proofs.intersection.IntersectionIterator.size_hint.Goals as goal
+use Rattle.sorted_iter.proofs.streams.IntersectionIterator.size_hint.Goals as goal
 
 pub returns-clause-table : goal.returns-clause-table
 returns-clause-table g c =
