@@ -4,6 +4,22 @@ ghost use Rattle.std.specs.Io.{ReadsAtMost};
 ghost use Rattle.std.specs.Io.KnownBytes.{ReadConsumes, WriteAppends, Keeps};
 ghost use Rattle.set_program.specs.Counts.{HasCause, CountsTaken};
 
+mod memory_sink;
+mod memory_source;
+mod plain;
+mod standard;
+#[cfg(test)]
+mod standard_tests;
+#[cfg(test)]
+mod watched;
+
+pub use crate::devices::memory_sink::MemorySink;
+pub use crate::devices::memory_source::MemorySource;
+pub use crate::devices::plain::{PlainSink, PlainSource};
+pub use crate::devices::standard::{StdSink, StdSource};
+#[cfg(test)]
+pub(crate) use crate::devices::watched::{EndlessSource, WatchedSink, WatchedSource};
+
 /// A call on a device failed.
 #[derive(Clone, Copy, Debug, PartialEq, Eq)]
 pub struct Failed;

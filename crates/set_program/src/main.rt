@@ -7,9 +7,10 @@ mod answering;
 pub mod arguments;
 pub mod command;
 pub mod devices;
-pub mod memory_sink;
-pub mod memory_source;
-pub mod plain;
+#[cfg(test)]
+mod example_tests;
+#[cfg(test)]
+mod fault_tests;
 pub mod program;
 mod reading;
 #[cfg(test)]
@@ -17,17 +18,12 @@ mod run_tests;
 #[cfg(test)]
 mod sample_tests;
 mod sampling;
-pub mod standard;
-#[cfg(test)]
-mod standard_tests;
 pub mod status;
-#[cfg(test)]
-mod watched;
 mod writing;
 
 use crate::arguments::words_of;
+use crate::devices::{StdSink, StdSource};
 use crate::program::run;
-use crate::standard::{StdSink, StdSource};
 use std::process::ExitCode;
 use std::{env, io};
 

@@ -1,12 +1,10 @@
 //! Tests of `run` without words over devices in memory: what is written, how it ends, and how the
 //! devices are called.
-use crate::devices::Source;
-use crate::memory_sink::MemorySink;
-use crate::memory_source::MemorySource;
-use crate::plain::{PlainSink, PlainSource};
+use crate::devices::{
+    MemorySink, MemorySource, PlainSink, PlainSource, Source, WatchedSink, WatchedSource,
+};
 use crate::program::run;
 use crate::status::Status;
-use crate::watched::{WatchedSink, WatchedSource};
 use set_document::AlgebraError;
 use std::alloc::{AllocError, Global};
 use std::process::Abort;
@@ -14,7 +12,7 @@ use std::test::Fail;
 
 const ROOM: usize = 65_536;
 
-const FIRST: &[u8] = b"a: 1..=5 4..=8 ^\n";
+pub(crate) const FIRST: &[u8] = b"a: 1..=5 4..=8 ^\n";
 
 const UNION: &[u8] = b"a: 1..=5 4..=8 |\n";
 
@@ -25,16 +23,8 @@ const TWICE_NAMED_ANSWER: &str = "a: 1..=10\nb: 1..=4 6..=10 |\na: 3..=3\n\
     # -9223372036854775808..=0\n# 1..=2 b\n# 3..=3 a b\n# 4..=4 b\n# 5..=5\n# 6..=10 b\n\
     # 11..=9223372036854775807\n";
 
-const PORTS: &str = "web: 80 443 | 8000..=8099 |\nlow: 0..=1023\nopen: web low &\n";
-
-const PORTS_ANSWER: &str = "web: 80..=80 443..=443 | 8000..=8099 |\nlow: 0..=1023\n\
-    open: 80..=80 443..=443 |\n\
-    # -9223372036854775808..=-1\n# 0..=79 low\n# 80..=80 low open web\n# 81..=442 low\n\
-    # 443..=443 low open web\n# 444..=1023 low\n# 1024..=7999\n# 8000..=8099 web\n\
-    # 8100..=9223372036854775807\n";
-
 // A comment with its line feed, of so many bytes in all.
-fn comment_of(alloc: Global, length: usize) -> Result<Vec<u8>, AllocError> {
+pub(crate) fn comment_of(alloc: Global, length: usize) -> Result<Vec<u8>, AllocError> {
     let mut text = Vec::new(alloc);
     text.push(b'#')?;
     for _ in 2..length {
@@ -50,7 +40,7 @@ pub(crate) fn good_sink(alloc: Global) -> Result<MemorySink, Fail> {
 }
 
 // Each text ends `Done` with the answer that stands beside it.
-fn all_done(rt: &impl Abort, alloc: Global, table: &[(&str, &str)]) -> Result<(), Fail> {
+pub(crate) fn all_done(rt: &impl Abort, alloc: Global, table: &[(&str, &str)]) -> Result<(), Fail> {
     for (text, answer) in table {
         let mut source = PlainSource::new(text.as_bytes().to_vec(alloc)?);
         let mut sink = good_sink(alloc)?;
@@ -70,7 +60,6 @@ fn answers(rt: HostRuntime) -> Result<(), Fail> {
         ("", "# -9223372036854775808..=9223372036854775807\n"),
         ("a: 1..=10\nb: a 5 -\na: 3\n", TWICE_NAMED_ANSWER),
         (TWICE_NAMED_ANSWER, TWICE_NAMED_ANSWER),
-        (PORTS, PORTS_ANSWER),
         (
             "a: 3 3 -\n",
             "a: empty\n# -9223372036854775808..=9223372036854775807\n",
@@ -264,18 +253,6 @@ fn room_runs_out(rt: HostRuntime) -> Result<(), Fail> {
     let mut sink = MemorySink::new(alloc, 6, ROOM, Vec::new(alloc), false)?;
     assert_eq!(rt; run(alloc, &[], &mut source, &mut sink), Status::WriteFault);
     assert_eq!(rt; sink.bytes(), b"a: 1..".as_slice());
-    Ok(())
-}
-
-#[test]
-fn finish_fails(rt: HostRuntime) -> Result<(), Fail> {
-    let alloc = rt.alloc();
-    let mut source = PlainSource::new(FIRST.to_vec(alloc)?);
-    let mut sink = MemorySink::new(alloc, ROOM, ROOM, Vec::new(alloc), true)?;
-    let status = run(alloc, &[], &mut source, &mut sink);
-    assert_eq!(rt; status, Status::WriteFault);
-    assert_eq!(rt; status.code(), 4);
-    assert_eq!(rt; sink.bytes(), FIRST_ANSWER.as_bytes());
     Ok(())
 }
 

@@ -1,19 +1,15 @@
 //! Tests of `run` with words: the counts of a sample, and words of no form.
 use crate::arguments::Argument;
-use crate::devices::{Failed, Source};
-use crate::memory_sink::MemorySink;
-use crate::memory_source::MemorySource;
-use crate::plain::PlainSource;
+use crate::devices::{Failed, MemorySource, PlainSource, Source, WatchedSink, WatchedSource};
 use crate::program::run;
 use crate::run_tests::good_sink;
 use crate::status::Status;
-use crate::watched::{WatchedSink, WatchedSource};
 use set_document::{evaluate_document, sample_text};
 use std::alloc::Global;
 use std::test::Fail;
 
 // The words of a command line, between single spaces.
-fn words_of_line(alloc: Global, line: &str) -> Result<Vec<Argument>, Fail> {
+pub(crate) fn words_of_line(alloc: Global, line: &str) -> Result<Vec<Argument>, Fail> {
     let mut words = Vec::new(alloc);
     for word in line.as_bytes().split(|byte| *byte == b' ') {
         words.push(Argument::new(word.to_vec(alloc)?))?;
@@ -115,19 +111,5 @@ fn a_sample_reads_nothing(rt: HostRuntime) -> Result<(), Fail> {
         "the first read is still to come"
     );
     assert_eq!(rt; source.read(&mut buffer), Ok(5));
-    Ok(())
-}
-
-#[test]
-fn a_write_of_the_counts_fails(rt: HostRuntime) -> Result<(), Fail> {
-    let alloc = rt.alloc();
-    let mut source = PlainSource::new(Vec::new(alloc));
-    let mut sink = MemorySink::new(alloc, 64, 1, vec![in alloc; 6u64]?, false)?;
-    let words = words_of_line(alloc, "sample 4")?;
-    assert_eq!(rt;
-        run(alloc, &words, &mut source, &mut sink),
-        Status::WriteFault
-    );
-    assert_eq!(rt; sink.bytes(), b"lines".as_slice());
     Ok(())
 }

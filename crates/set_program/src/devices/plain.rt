@@ -5,8 +5,8 @@ ghost use Rattle.std.specs.Io.KnownBytes.{ReadConsumes};
 ghost use Rattle.set_program.specs.Counts.{CountsTaken, HasCause};
 ghost use Rattle.set_program.specs.Plain.{PlainState};
 
+use crate::devices::memory_source::give;
 use crate::devices::{Failed, Sink, Source};
-use crate::memory_source::give;
 use std::marker::Model;
 
 /// A source in memory that never fails, seen as the bytes left and the number of bytes taken. A

@@ -1,9 +1,8 @@
 //! Tests of the devices over std: over a reader that fails once, and over a writer that takes
 //! nothing.
-use crate::devices::{Failed, Sink, Source};
-use crate::memory_source::give;
+use crate::devices::memory_source::give;
+use crate::devices::{Failed, Sink, Source, StdSink, StdSource};
 use crate::program::run;
-use crate::standard::{StdSink, StdSource};
 use crate::status::Status;
 use std::io;
 use std::io::{Read, Write};

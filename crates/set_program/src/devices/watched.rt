@@ -2,8 +2,8 @@
 ghost use Rattle.std.specs.Prelude.{◌≡◌, ◌<◌, ◌≤◌, None, length};
 ghost use Rattle.set_program.specs.Counts.{CountsTaken};
 
+use crate::devices::memory_source::give;
 use crate::devices::{Failed, Sink, Source};
-use crate::memory_source::give;
 
 /// A source that notes how long each buffer was that it was handed.
 #[derive(Drop)]
@@ -47,6 +47,38 @@ impl Source for WatchedSource {
         self.position = self.position.saturating_add(count);
         self.taken = self.taken.saturating_add(count as u64);
         Ok(count)
+    }
+}
+
+/// A source that gives one `#` in each read, never ends, and counts its reads.
+#[derive(Drop)]
+pub struct EndlessSource {
+    reads: u64,
+}
+
+impl EndlessSource {
+    /// A source that wasn't read yet.
+    pub fn new() -> Self {
+        EndlessSource { reads: 0 }
+    }
+
+    /// How often it was read.
+    pub fn reads(&self) -> u64 {
+        self.reads
+    }
+}
+
+impl Source for EndlessSource {
+    ghost left = { λ _. None };
+
+    ghost taken = { λ source. source.reads };
+
+    ghost faults = { λ _. 0 };
+
+    fn read(&mut self, buffer: &mut [u8]) -> Result<usize, Failed> {
+        buffer[0] = b'#';
+        self.reads = self.reads.saturating_add(1);
+        Ok(1)
     }
 }
 
