@@ -19,3 +19,4 @@ pub mod VisitLemmas
 pub mod RunLemmas
 pub mod CompileLemmas
 pub mod PassLemmas
+pub mod LabelLemmas

@@ -6,6 +6,7 @@ pub mod FaultText
 pub mod Table
 pub mod Tabled
 pub mod Answer
+pub mod Labels
 pub mod Words
 pub mod Lines
 pub mod Names
