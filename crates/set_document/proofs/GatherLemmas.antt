@@ -15,7 +15,6 @@ use Rattle.set_document.specs.Numbers.{least, greatest}
 use Rattle.set_document.specs.Table.{places_where, is_held, held}
 use Rattle.set_document.specs.Truth.{at}
 use Rattle.set_document.specs.Words.{letters}
-use Rattle.set_document.specs.declared.named_lines.Line.{Line}
 use Rattle.set_document.specs.declared.word.Name.{Name}
 use Rattle.set_document.proofs.NameLemmas.{with_place, in_bytes, something_latest, line_at_place}
 
@@ -56,8 +55,8 @@ one_more old lo hi set i x lines name names c same =
     go false = ap (λ l. l ++ places_where (is_held lines) (i + 1) names) (append-nil (grouped_at old x))
 
 -- the last line of a name says whether it holds
-pub last_line_holds : (lines : List Line) (name : List ℕ) (x : ℤ) (place : ℕ) (line : Line) → last_place (names_of lines) name ≡ Some place → line ≡ get_or lines place line
-    → holds line.set x ≡ is_held (at (lines_of lines) x) name
+pub last_line_holds : (lines : List (List ℕ × List (ℤ × ℤ))) (name : List ℕ) (x : ℤ) (place : ℕ) (line : List ℕ × List (ℤ × ℤ)) → last_place (names_of lines) name ≡ Some place → line ≡ get_or lines place line
+    → holds line.1 x ≡ is_held (at (lines_of lines) x) name
 last_line_holds lines name x place line e f = ap (λ r. unwrap_or r false) (something_latest lines name x place line e f)
 
 -- ---- the pairs of the index
@@ -93,13 +92,13 @@ names_from last (p ∷ pairs) (d ∷ ds) e =
 pub index_names : (names : List (List ℕ)) (pairs : List (Name × ℕ)) → IsIndex names pairs → map (λ p. letters p.0) pairs ≡ distinct names
 index_names names pairs h = names_from (last_place names) pairs (distinct names) h.lists
 
-pub names_at : (lines : List Line) (x : ℤ) → map (λ l. l.0) (at (lines_of lines) x) ≡ names_of lines
+pub names_at : (lines : List (List ℕ × List (ℤ × ℤ))) (x : ℤ) → map (λ l. l.0) (at (lines_of lines) x) ≡ names_of lines
 names_at lines x =
     map-map (λ (l : List ℕ × Bool). l.0) (λ (l : List ℕ × (ℤ → Bool)). (l.0, l.1 x)) (lines_of lines)
-    ∙ map-map (λ (l : List ℕ × (ℤ → Bool)). l.0) (λ (l : Line). (letters l.name, holds l.set)) lines
+    ∙ map-map (λ (l : List ℕ × (ℤ → Bool)). l.0) (λ (l : List ℕ × List (ℤ × ℤ)). (l.0, holds l.1)) lines
 
 -- the names that hold, by the pairs of the index
-pub held_by_index : (lines : List Line) (pairs : List (Name × ℕ)) (x : ℤ) → IsIndex (names_of lines) pairs
+pub held_by_index : (lines : List (List ℕ × List (ℤ × ℤ))) (pairs : List (Name × ℕ)) (x : ℤ) → IsIndex (names_of lines) pairs
     → places_where (is_held (at (lines_of lines) x)) 0 (map (λ p. letters p.0) pairs) ≡ held (at (lines_of lines) x)
 held_by_index lines pairs x h = ap (places_where (is_held (at (lines_of lines) x)) 0) (index_names (names_of lines) pairs h ∙ ap distinct (sym (names_at lines x)))
 
@@ -112,16 +111,16 @@ placed_first names left rest name place all e = let all' : AllByRecursion (IsPla
 pub placed_rest : (names : List (List ℕ)) (left rest : List (Name × ℕ)) (name : Name) (place : ℕ) → AllByRecursion (IsPlaced names) left → left ≡ (name, place) ∷ rest → AllByRecursion (IsPlaced names) rest
 placed_rest names left rest name place all e = (placed_first names left rest name place all e).1
 
-module _ (lines : List Line) (left rest : List (Name × ℕ)) (name : Name) (place : ℕ) (all : AllByRecursion (IsPlaced (names_of lines)) left) (e : left ≡ (name, place) ∷ rest) where
+module _ (lines : List (List ℕ × List (ℤ × ℤ))) (left rest : List (Name × ℕ)) (name : Name) (place : ℕ) (all : AllByRecursion (IsPlaced (names_of lines)) left) (e : left ≡ (name, place) ∷ rest) where
   -- the ranges of the last line of the next name put in
-  pub name_put_in : (old new : List ((ℤ × ℤ) × ℕ)) (i : ℕ) (line : Line) → AllCanonical lines → place < length lines → line ≡ get_or lines place line
-      → new ≡ old ++ map (λ range. (range, i)) line.set → (x : ℤ)
+  pub name_put_in : (old new : List ((ℤ × ℤ) × ℕ)) (i : ℕ) (line : List ℕ × List (ℤ × ℤ)) → AllCanonical lines → place < length lines → line ≡ get_or lines place line
+      → new ≡ old ++ map (λ range. (range, i)) line.1 → (x : ℤ)
       → grouped_at new x ++ places_where (is_held (at (lines_of lines) x)) (i + 1) (map (λ p. letters p.0) rest)
       ≡ grouped_at old x ++ places_where (is_held (at (lines_of lines) x)) i (map (λ p. letters p.0) left)
   name_put_in old new i line canonical within is put x =
       let last = (placed_first (names_of lines) left rest name place all e).0 in
-      let own : IsCanonical least greatest line.set = subst (λ (l : Line). IsCanonical least greatest l.set) (sym is) (canonical place line within) in
-      let turn = one_more old least greatest line.set i x (at (lines_of lines) x) (letters name) (map (λ p. letters p.0) rest) own (last_line_holds lines (letters name) x place line last is) in
+      let own : IsCanonical least greatest line.1 = subst (λ (l : List ℕ × List (ℤ × ℤ)). IsCanonical least greatest l.1) (sym is) (canonical place line within) in
+      let turn = one_more old least greatest line.1 i x (at (lines_of lines) x) (letters name) (map (λ p. letters p.0) rest) own (last_line_holds lines (letters name) x place line last is) in
       ap (λ l. grouped_at l x ++ places_where (is_held (at (lines_of lines) x)) (i + 1) (map (λ p. letters p.0) rest)) put
       ∙ (turn ∙ ap (λ l. grouped_at old x ++ places_where (is_held (at (lines_of lines) x)) i (map (λ p. letters p.0) l)) (sym e))
 

@@ -7,13 +7,13 @@ use Rattle.std.specs.Cmp.Lexicographic.{pointwise}
 use Rattle.std.proofs.lemmas.Slice.Eq.{slice_eq-Decides}
 use Rattle.number_line.specs.Segments.{segments}
 use Rattle.set_document.specs.Answer.{Shape, shape, listed}
-use Rattle.set_document.specs.Lines.{names_of, shown_lines}
+use Rattle.set_document.specs.Lines.{line_lists_of, names_of}
 use Rattle.set_document.specs.declared.named_lines.Line.{Line}
-use Rattle.set_document.proofs.GatherLemmas.{index_names}
+use Rattle.std.proofs.lemmas.Simd.{map-map}
 use Rattle.set_document.specs.Numbers.{least, greatest, i64_runs}
 use Rattle.set_document.specs.Truth.{Lines, at, named}
 use Rattle.set_document.specs.Table.{names, places_where, is_held, held, row_of, rows}
-use Rattle.set_document.specs.Names.{last_place, distinct, IsIndex, AreShown}
+use Rattle.set_document.specs.Names.{last_place, distinct, IsIndex, AreLastPlaces}
 use Rattle.set_document.specs.Words.{letters}
 use Rattle.set_document.specs.declared.word.Name.{Name}
 use Rattle.set_document.proofs.NameLemmas.{place_in_range}
@@ -85,7 +85,7 @@ names_at : (ls : Lines) (x : ℤ) → map (λ l. l.0) (at ls x) ≡ map (λ l. l
 names_at [] x = refl
 names_at (l ∷ ls) x = ap (λ t. l.0 ∷ t) (names_at ls x)
 
-labels_are : (ls : Lines) (x : ℤ) (shown : List ℕ) → AreShown (map (λ l. l.0) ls) shown → held (at ls x) ≡ held_from (values_at ls x) 0 shown
+labels_are : (ls : Lines) (x : ℤ) (shown : List ℕ) → AreLastPlaces (map (λ l. l.0) ls) shown → held (at ls x) ≡ held_from (values_at ls x) 0 shown
 labels_are ls x shown h =
     let shown_at : map (last_place (map (λ l. l.0) (at ls x))) (distinct (map (λ l. l.0) (at ls x))) ≡ map (λ s. Some s) shown = rw (names_at ls x) h in
     places_alike (at ls x) (distinct (map (λ l. l.0) (at ls x))) shown 0 shown_at ∙ ap (λ v. held_from v 0 shown) (second_at ls x)
@@ -93,7 +93,7 @@ labels_are ls x shown h =
 -- ---- the table
 
 pub rows_are_table : (text : List ℕ) (compiled : List (List Step)) (visited : List ℤ) (shown : List ℕ) → IsWalk least greatest (literal_cuts text) visited → IsCompiled visited (named text) compiled
-    → AreShown (map (λ l. l.0) (named text)) shown → closed greatest (rows_from (label_of compiled shown) 0 visited) ≡ rows text
+    → AreLastPlaces (map (λ l. l.0) (named text)) shown → closed greatest (rows_from (label_of compiled shown) 0 visited) ≡ rows text
 unfolding rows
 rows_are_table text compiled visited shown w h s =
     let f : ℤ → List ℕ = λ x. held (at (named text) x) in
@@ -121,7 +121,7 @@ seconds_with : (last : List ℕ → Option ℕ) (ds : List (List ℕ)) → map (
 seconds_with last [] = refl
 seconds_with last (d ∷ ds) = ap (λ l. last d ∷ l) (seconds_with last ds)
 
-pub index_shown : (names : List (List ℕ)) (pairs : List (Name × ℕ)) → IsIndex names pairs → AreShown names (map (λ p. p.1) pairs)
+pub index_shown : (names : List (List ℕ)) (pairs : List (Name × ℕ)) → IsIndex names pairs → AreLastPlaces names (map (λ p. p.1) pairs)
 index_shown names pairs h = sym (seconds_with (last_place names) (distinct names)) ∙ (sym (ap (map (λ (r : List ℕ × Option ℕ). r.1)) h.lists) ∙ seconds_of pairs)
 
 placed : (names ds : List (List ℕ)) (shown : List ℕ) → map (last_place names) ds ≡ map (λ s. Some s) shown → AllByRecursion (λ s. s < length names) shown
@@ -133,7 +133,7 @@ placed names (d ∷ ds) (s ∷ shown) e =
     let rest : map (last_place names) ds ≡ map (λ s. Some s) shown = cc in
     (place_in_range names d s here, placed names ds shown rest)
 
-pub shown_within : (names : List (List ℕ)) (shown : List ℕ) → AreShown names shown → AllByRecursion (λ s. s < length names) shown
+pub shown_within : (names : List (List ℕ)) (shown : List ℕ) → AreLastPlaces names shown → AllByRecursion (λ s. s < length names) shown
 shown_within names shown h = placed names (distinct names) shown h
 
 -- one more row is closed
@@ -165,29 +165,28 @@ rest_ascends left r rest e a =
 
 -- ---- the lines and the names
 
-from_parts : (lines : List Line) (ls : Lines) → names_of lines ≡ map (λ l. l.0) ls → map (λ l. l.set) lines ≡ map (λ l. i64_runs l.1) ls
-    → shown_lines lines ≡ map (λ l. (l.0, i64_runs l.1)) ls
+from_parts : (lines : List Line) (ls : Lines) → names_of (line_lists_of lines) ≡ map (λ l. l.0) ls → map (λ l. l.set) lines ≡ map (λ l. i64_runs l.1) ls
+    → line_lists_of lines ≡ map (λ l. (l.0, i64_runs l.1)) ls
 from_parts [] [] e f = refl
 from_parts [] (l ∷ ls) e f = absurd cc
 from_parts (d ∷ ds) [] e f = absurd cc
 from_parts (d ∷ ds) (l ∷ ls) e f =
     let name : letters d.name ≡ l.0 = cc in
     let runs : d.set ≡ i64_runs l.1 = cc in
-    let more_names : names_of ds ≡ map (λ l. l.0) ls = cc in
+    let more_names : names_of (line_lists_of ds) ≡ map (λ l. l.0) ls = cc in
     let more_sets : map (λ l. l.set) ds ≡ map (λ l. i64_runs l.1) ls = cc in
-    let rest : shown_lines ds ≡ map (λ l. (l.0, i64_runs l.1)) ls = from_parts ds ls more_names more_sets in
+    let rest : line_lists_of ds ≡ map (λ l. (l.0, i64_runs l.1)) ls = from_parts ds ls more_names more_sets in
     let head : ◌≡◌ {A = List ℕ × List (ℤ × ℤ)} (letters d.name, d.set) (l.0, i64_runs l.1) = λ i. (name i, runs i) in
     cc
 
-pub lines_listed : (text : List ℕ) (lines : List Line) → names_of lines ≡ map (λ l. l.0) (named text) → map (λ l. l.set) lines ≡ map (λ l. i64_runs l.1) (named text)
-    → shown_lines lines ≡ listed text
+pub lines_listed : (text : List ℕ) (lines : List Line) → names_of (line_lists_of lines) ≡ map (λ l. l.0) (named text) → map (λ l. l.set) lines ≡ map (λ l. i64_runs l.1) (named text)
+    → line_lists_of lines ≡ listed text
 unfolding listed
 lines_listed text lines e f = from_parts lines (named text) e f
 
-pub names_listed : (text : List ℕ) (known : List (List ℕ)) (pairs : List (Name × ℕ)) → IsIndex known pairs → known ≡ map (λ l. l.0) (named text)
-    → map (λ p. letters p.0) pairs ≡ names text
-unfolding names
-names_listed text known pairs h e = index_names known pairs h ∙ ap distinct e
+names_listed : (text : List ℕ) → distinct (names_of (listed text)) ≡ names text
+unfolding listed names
+names_listed text = ap distinct (map-map (λ (l : List ℕ × List (ℤ × ℤ)). l.0) (λ (l : List ℕ × (ℤ → Bool)). (l.0, i64_runs l.1)) (named text))
 
 -- a pass leaves a note for each line
 length_note : (ss : List (Bool × List ℤ)) (bs : List Bool) (x : ℤ) → length bs ≡ length ss → length (note_all ss bs x) ≡ length ss
@@ -202,6 +201,9 @@ length_walk steps p ss (x ∷ xs) e =
     let one : length (note_all ss (values_of steps p) x) ≡ length ss = length_note ss (values_of steps p) x (omega (arith, n, e)) in
     length_walk steps (p + 1) (note_all ss (values_of steps p) x) xs (one ∙ e)
 
-pub shape_of_parts : (text : List ℕ) (s : Shape) → s.lines ≡ listed text → s.names ≡ names text → s.rows ≡ rows text → s ≡ shape text
+pub shape_of_parts : (text : List ℕ) (lines : List (List ℕ × List (ℤ × ℤ))) (table : List ((ℤ × ℤ) × List ℕ)) → lines ≡ listed text → table ≡ rows text
+    → ◌≡◌ {A = Shape} (record { lines = lines; names = distinct (names_of lines); rows = table }) (shape text)
 unfolding shape
-shape_of_parts text s e f g = λ i. record { lines = e i; names = f i; rows = g i }
+shape_of_parts text lines table e f =
+    let n = ap (λ ls. distinct (names_of ls)) e ∙ names_listed text in
+    λ i. record { lines = e i; names = n i; rows = f i }

@@ -3,13 +3,8 @@ use Rattle.std.specs.Prelude.{◌≡◌, ℕ, ◌<◌, ℤ, pos, Bool, List, [],
 use Rattle.set_document.specs.Text.{Kind}
 use Rattle.set_document.specs.Truth.{after_word, after_words}
 use Rattle.truth_blocks.specs.Stack.{last_value}
-use Rattle.set_document.specs.Words.{letters}
-use Rattle.set_document.specs.declared.word.Name.{Name}
 use Rattle.truth_blocks.specs.Blocks.{after_step, line_value}
 use Rattle.truth_blocks.specs.declared.step.Step.{Step}
-
-abbrev pub known : List Name → List (List ℕ)
-known names = map letters names
 
 -- the truth values after a step, where there is one
 abbrev pub after_some : List Bool → ℕ → List Bool → Option Step → List Bool

@@ -9,6 +9,7 @@ pub mod Answer
 pub mod Words
 pub mod Lines
 pub mod Names
+pub mod Indexed
 pub mod Steps
 pub mod Laws
 pub mod Sample

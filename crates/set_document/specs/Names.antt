@@ -34,5 +34,5 @@ pub record IsIndex (names : List (List ℕ)) (pairs : List (Name × ℕ)) : Type
   pub lists : map (λ p. (letters p.0, Some p.1)) pairs ≡ with_last_places names
 
 -- for each distinct name, in order, the place of its last line
-abbrev pub AreShown : List (List ℕ) → List ℕ → Type 0
-AreShown names shown = map (last_place names) (distinct names) ≡ map (λ s. Some s) shown
+abbrev pub AreLastPlaces : List (List ℕ) → List ℕ → Type 0
+AreLastPlaces names places = map (last_place names) (distinct names) ≡ map (λ s. Some s) places

@@ -4,12 +4,15 @@ use Rattle.set_document.specs.declared.word.Word.{Word}
 use Rattle.set_document.specs.declared.word.Word.TheVariants as word
 use Rattle.set_document.specs.declared.line.LineForm.{LineForm}
 use Rattle.set_document.specs.declared.line.LineForm.TheVariants as line
-use Rattle.std.specs.Prelude.{ℕ, List, option_copied}
+use Rattle.std.specs.Prelude.{ℕ, List, map, option_copied}
 use Rattle.set_document.specs.Text.{Form, Comment, Named, Bad, Kind, Number, Span, Empty, Full, Name, Not, Or, And, Minus, Xor}
 
 -- the bytes of a name
 abbrev pub letters : Letters → List ℕ
 letters name = name.bytes.now
+
+abbrev pub letters_of : List Letters → List (List ℕ)
+letters_of names = map letters names
 
 -- the kind that a word stands for
 abbrev pub shown : Word → Kind

@@ -14,7 +14,7 @@ use crate::judge::judge;
 use crate::named_lines::NamedLines;
 use crate::pass::{numbers_to_visit, pass_over};
 use crate::print::{push_lines, push_rows, room_for};
-use crate::table::{TableRow, rows_of_table, tabulate};
+use crate::table::{TableRow, rows_by_sets};
 use crate::word::Name;
 use element_core::NoMemory;
 use range_map::{Range, RangeSet};
@@ -34,23 +34,18 @@ pub struct Answer<'t> {
 }
 
 impl<'t> Model for Answer<'t> {
-    ghost use Rattle.std.specs.Prelude.{map};
     ghost use Rattle.set_document.specs.Answer.{Shape};
-    ghost use Rattle.set_document.specs.Lines.{names_of, shown_lines};
-    ghost use Rattle.set_document.specs.Names.{IsIndex};
+    ghost use Rattle.set_document.specs.Lines.{names_of};
+    ghost use Rattle.set_document.specs.Names.{distinct};
     ghost use Rattle.set_document.specs.Tabled.{table_rows};
-    ghost use Rattle.set_document.specs.Words.{letters};
 
     ghost Value = { Shape };
 
     ghost view = { λ answer. record {
-      lines = shown_lines answer.done.lines.items;
-      names = map (λ p. letters p.0) answer.done.latest.pairs;
+      lines = answer.done;
+      names = distinct (names_of answer.done);
       rows = table_rows answer.rows.items;
     } };
-
-    ghost invariant = { λ answer. IsIndex
-        (names_of answer.done.lines.items) answer.done.latest.pairs };
 }
 
 impl<'t> Answer<'t> {
@@ -58,7 +53,7 @@ impl<'t> Answer<'t> {
     pub fn num_lines(&self) -> usize
         ensures { result ≡ length self.now.lines }
     {
-        self.done.lines.len()
+        self.done.lines().len()
     }
 
     /// The number of ranges of all lines together, or `usize::MAX` where there are more. O(n) in
@@ -67,7 +62,7 @@ impl<'t> Answer<'t> {
         ensures { result ≡ min (sum_by (λ l. length l.1) self.now.lines) usize.MAX }
     {
         let mut total: usize = 0;
-        for line in &self.done.lines {
+        for line in self.done.lines() {
             total = total.saturating_add(line.set.num_ranges());
         }
         total
@@ -78,7 +73,7 @@ impl<'t> Answer<'t> {
     pub fn line(&self, index: usize) -> Option<(Name<'t>, &RangeSet<i64>)>
         ensures { option_map (λ l. (letters l.0, l.1.now)) result ≡ slice_get self.now.lines index }
     {
-        let line = self.done.lines.get(index)?;
+        let line = self.done.lines().get(index)?;
         Some((line.name, &line.set))
     }
 
@@ -104,7 +99,7 @@ impl<'t> Answer<'t> {
     pub fn name(&self, position: usize) -> Option<Name<'t>>
         ensures { option_map letters result ≡ slice_get self.now.names position }
     {
-        let (name, _) = self.done.latest.get_key_value_at_index(position)?;
+        let (name, _) = self.done.names().get_key_value_at_index(position)?;
         Some(*name)
     }
 
@@ -115,7 +110,7 @@ impl<'t> Answer<'t> {
         ensures places { map (λ p. (letters p.0, Some p.1)) result.now.pairs ≡ with_last_places
             (map (λ l. l.0) self.now.lines) }
     {
-        &self.done.latest
+        self.done.names()
     }
 
     /// The bytes of the answer: for each named line its name, a colon, a space, its ranges and a
@@ -128,10 +123,11 @@ impl<'t> Answer<'t> {
     pub fn print(&self, alloc: Global) -> Result<Vec<u8>, NoMemory>
         ensures { IfOk result (λ bytes. bytes.items ≡ printed self.now) }
     {
-        let room = room_for(self.done.lines.as_slice(), &self.done.latest, &self.rows);
-        let mut out = Vec::with_capacity(alloc, room)?;
-        push_lines(&mut out, self.done.lines.as_slice())?;
-        push_rows(&mut out, &self.done.latest, &self.rows)?;
+        let lines = self.done.lines();
+        let names = self.done.names();
+        let mut out = Vec::with_capacity(alloc, room_for(lines, names, &self.rows))?;
+        push_lines(&mut out, lines)?;
+        push_rows(&mut out, names, &self.rows)?;
         Ok(out)
     }
 }
@@ -170,8 +166,7 @@ pub fn evaluate_by_sets<'t>(alloc: Global, text: &'t [u8]) -> Result<Answer<'t>,
     ensures fault { IfErr result (IsFirstFault (first_fault text.now)) }
 {
     let done = evaluate_lines(alloc, text)?;
-    let table = tabulate(alloc, &done)?;
-    let rows = rows_of_table(alloc, &table)?;
+    let rows = rows_by_sets(alloc, &done)?;
     Ok(Answer { done, rows })
 }
 

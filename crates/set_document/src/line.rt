@@ -1,10 +1,8 @@
 //! Reads the lines of a document.
-ghost use Rattle.std.specs.Prelude.{◌≡◌, ◌+◌, ◌<◌, ◌≤◌, ◌==◌, ◌∷◌, ◌++◌, length, List, Option, option_copied};
-ghost use Rattle.std.specs.List.{slice_split, prefix_len};
-ghost use Rattle.text_lines.specs.Lines.{lines, words};
+ghost use Rattle.std.specs.Prelude.{◌≡◌, ◌≤◌, length, List, Option};
+ghost use Rattle.std.specs.List.{prefix_len};
 ghost use Rattle.set_document.specs.Text.{form, form_of_body, form_of_named, form_after, is_letter, is_name};
 ghost use Rattle.set_document.specs.Words.{shown_form};
-ghost use Rattle.text_lines.specs.Lines.{left_len};
 
 use crate::word::{Name, is_letters};
 

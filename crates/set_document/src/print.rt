@@ -2,7 +2,7 @@
 ghost use Rattle.std.specs.Prelude.{◌≡◌, ◌++◌, ℤ, OnOk, map};
 ghost use Rattle.set_document.specs.Words.{letters};
 ghost use Rattle.set_document.specs.Answer.{range_text, further_text, list_text, line_text, lines_text, name_text, row_text, rows_text};
-ghost use Rattle.set_document.specs.Lines.{shown_lines};
+ghost use Rattle.set_document.specs.Lines.{line_lists_of};
 ghost use Rattle.set_document.specs.Tabled.{table_rows};
 
 use crate::named_lines::Line;
@@ -59,7 +59,7 @@ pub(crate) fn push_line(out: &mut Vec<u8>, line: &Line<'_>) -> Result<(), NoMemo
 
 // Writes the lines in order.
 pub(crate) fn push_lines(out: &mut Vec<u8>, lines: &[Line<'_>]) -> Result<(), NoMemory>
-    ensures { OnOk result (out.new.items ≡ out.old.items ++ lines_text (shown_lines lines.now)) }
+    ensures { OnOk result (out.new.items ≡ out.old.items ++ lines_text (line_lists_of lines.now)) }
 {
     for line in lines {
         push_line(out, line)?;

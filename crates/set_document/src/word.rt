@@ -1,6 +1,5 @@
 //! Reads the words of a document.
-ghost use Rattle.std.specs.Prelude.{◌≡◌, ◌≤◌, ◌==◌, length, List, Option, option_map, bytes_eq};
-ghost use Rattle.std.specs.List.{position_or_len, list_all};
+ghost use Rattle.std.specs.Prelude.{◌≡◌, List, Option, option_map};
 ghost use Rattle.set_document.specs.Text.{kind, is_letters, is_letter, span, span_from};
 ghost use Rattle.set_document.specs.Words.{letters, shown};
 

@@ -12,8 +12,8 @@ use Rattle.set_document.proofs.table.gather.Given as goal
 
 abbrev pub invariant-loop-place : goal.invariant-loop-place
 invariant-loop-place l = record {
-  grouped : (x : ℤ) → grouped_at l.holders x ++ places_where (is_held (at (lines_of l.done.lines.items) x)) l.position (map (λ p. letters p.0) l.place-iterator)
-      ≡ held (at (lines_of l.done.lines.items) x);
-  placed : AllByRecursion (IsPlaced (names_of l.done.lines.items)) l.place-iterator;
+  grouped : (x : ℤ) → grouped_at l.holders x ++ places_where (is_held (at (lines_of l.done) x)) l.position (map (λ p. letters p.0) l.place-iterator)
+      ≡ held (at (lines_of l.done) x);
+  placed : AllByRecursion (IsPlaced (names_of l.done)) l.place-iterator;
   count : l.position + length l.place-iterator < 2 ^ 64;
 }
