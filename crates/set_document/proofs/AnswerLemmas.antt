@@ -7,11 +7,11 @@ use Rattle.std.proofs.lemmas.Int.{ints}
 use Rattle.std.proofs.lemmas.Simd.{map-map}
 use Rattle.number_line.specs.Ranges.{holds}
 use Rattle.set_document.specs.Numbers.{least, greatest, above_least, i64_runs}
-use Rattle.set_document.specs.Truth.{Lines, at, named}
-use Rattle.set_document.specs.Answer.{Shape, shape, listed}
+use Rattle.set_document.specs.Truth.{Lines, at, named_lines}
+use Rattle.set_document.specs.Answer.{Shape, shape, line_lists}
 use Rattle.set_document.specs.Lines.{Agree, AllCanonical, lines_of, names_of}
-use Rattle.set_document.specs.Names.{distinct}
-use Rattle.set_document.specs.Table.{names, held, rows, row_of}
+use Rattle.set_document.specs.Names.{distinct_names}
+use Rattle.set_document.specs.Table.{names, names_held, rows, row_of}
 use Rattle.set_document.proofs.GatherLemmas.{names_at}
 use Rattle.set_document.proofs.NumberLemmas.{canonical_is_i64_runs, width}
 use Rattle.set_document.proofs.TableLemmas.{rows_are_segments}
@@ -38,15 +38,15 @@ lines_are_runs (d ∷ ds) (l ∷ ls) c h =
 
 -- the lines and the rows of a text are its shape
 pub shape_is : (text : List ℕ) (lines : List (List ℕ × List (ℤ × ℤ))) (table : List ((ℤ × ℤ) × List ℕ))
-    → AllCanonical lines → Agree (lines_of lines) (named text) → IsCanonicalMap (pointwise nat_eq) least greatest table
-    → ((x : ℤ) → least ≤ℤ x → x ≤ℤ greatest → value_at table x ≡ Some (held (at (lines_of lines) x)))
-    → ◌≡◌ {A = Shape} (record { lines = lines; names = distinct (names_of lines); rows = table }) (shape text)
-unfolding shape listed names rows
+    → AllCanonical lines → Agree (lines_of lines) (named_lines text) → IsCanonicalMap (pointwise nat_eq) least greatest table
+    → ((x : ℤ) → least ≤ℤ x → x ≤ℤ greatest → value_at table x ≡ Some (names_held (at (lines_of lines) x)))
+    → ◌≡◌ {A = Shape} (record { lines = lines; names = distinct_names (names_of lines); rows = table }) (shape text)
+unfolding shape line_lists names rows
 shape_is text lines table canonical agree rows_canonical values =
-    let runs : lines ≡ map (λ l. (l.0, i64_runs l.1)) (named text) = lines_are_runs lines (named text) canonical agree in
-    let same_names : names_of lines ≡ map (λ l. l.0) (named text) =
-    sym (names_at lines least) ∙ (ap (map (λ l. l.0)) (agree least some_number.0 some_number.1) ∙ map-map (λ (l : List ℕ × Bool). l.0) (λ (l : List ℕ × (ℤ → Bool)). (l.0, l.1 least)) (named text)) in
-    let rows' : table ≡ map row_of (segments (pointwise nat_eq) (λ x. held (at (named text) x)) least above_least) =
-    rows_are_segments least greatest above_least (λ x. held (at (named text) x)) table width rows_canonical
-    (λ x p q. values x p q ∙ ap (λ lines. Some (held lines)) (agree x p q)) in
-    λ i. record { lines = runs i; names = distinct (same_names i); rows = rows' i }
+    let runs : lines ≡ map (λ l. (l.0, i64_runs l.1)) (named_lines text) = lines_are_runs lines (named_lines text) canonical agree in
+    let same_names : names_of lines ≡ map (λ l. l.0) (named_lines text) =
+    sym (names_at lines least) ∙ (ap (map (λ l. l.0)) (agree least some_number.0 some_number.1) ∙ map-map (λ (l : List ℕ × Bool). l.0) (λ (l : List ℕ × (ℤ → Bool)). (l.0, l.1 least)) (named_lines text)) in
+    let rows' : table ≡ map row_of (segments (pointwise nat_eq) (λ x. names_held (at (named_lines text) x)) least above_least) =
+    rows_are_segments least greatest above_least (λ x. names_held (at (named_lines text) x)) table width rows_canonical
+    (λ x p q. values x p q ∙ ap (λ lines. Some (names_held lines)) (agree x p q)) in
+    λ i. record { lines = runs i; names = distinct_names (same_names i); rows = rows' i }

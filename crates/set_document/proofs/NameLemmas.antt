@@ -22,7 +22,7 @@ use Rattle.set_document.specs.Words.{letters}
 use Rattle.set_document.specs.Indexed.{AreIndexed}
 use Rattle.set_document.specs.Lines.{line_lists_of, lines_of, names_of, AllCanonical}
 use Rattle.set_document.specs.Numbers.{least, greatest}
-use Rattle.set_document.specs.Names.{last_place, bytes_cmp, name_cmp, distinct, IsIndex}
+use Rattle.set_document.specs.Names.{last_place, bytes_cmp, name_cmp, distinct_names, IsIndex}
 use Rattle.set_document.specs.declared.named_lines.Line.{Line}
 use Rattle.set_document.specs.declared.word.Name.{Name}
 
@@ -194,14 +194,14 @@ put_in_order k v last next h (p ∷ pairs) (d ∷ ds) sorted e =
         rw greater (λ i. (letters k, here i) ∷ stay i)
 
 -- the distinct names of one more
-distinct_behind : (names : List (List ℕ)) (n : List ℕ) → distinct (names ++ n ∷ []) ≡ add bytes_cmp (distinct names) n
+distinct_behind : (names : List (List ℕ)) (n : List ℕ) → distinct_names (names ++ n ∷ []) ≡ add bytes_cmp (distinct_names names) n
 distinct_behind names n = fold-append (add bytes_cmp) [] names (n ∷ [])
 
 ascends_from : (ds names : List (List ℕ)) → IsStrictlySortedBy bytes_cmp ds → IsStrictlySortedBy bytes_cmp (fold (add bytes_cmp) ds names)
 ascends_from ds [] h = h
 ascends_from ds (n ∷ names) h = ascends_from (add bytes_cmp ds n) names (ascends-add nat_list_cmp_total ds n h)
 
-pub distinct_ascends : (names : List (List ℕ)) → IsStrictlySortedBy bytes_cmp (distinct names)
+pub distinct_ascends : (names : List (List ℕ)) → IsStrictlySortedBy bytes_cmp (distinct_names names)
 unfolding IsStrictlySortedBy
 distinct_ascends names = ascends_from [] names tt
 
@@ -212,7 +212,7 @@ indexed_behind names pairs k h = record {
       found_once_put pairs k (length names) n ∙ (ap (λ r. if bytes_eq (letters k) (letters n) then Some (length names) else r) (h.finds n)
       ∙ sym (last_place_behind names (letters k) (letters n)));
   lists =
-      put_in_order k (length names) (last_place names) (last_place (names ++ letters k ∷ [])) (last_place_behind names (letters k)) pairs (distinct names) (distinct_ascends names) h.lists
+      put_in_order k (length names) (last_place names) (last_place (names ++ letters k ∷ [])) (last_place_behind names (letters k)) pairs (distinct_names names) (distinct_ascends names) h.lists
       ∙ ap (map (with_place (last_place (names ++ letters k ∷ [])))) (sym (distinct_behind names (letters k)));
 }
 
@@ -256,8 +256,8 @@ pushed_indexed lines pairs line place e c h =
     let shown = line_lists_of lines in
     let grown : names_of (shown ++ (letters line.name, line.set) ∷ []) ≡ names_of shown ++ letters line.name ∷ [] =
     map-append (λ (l : List ℕ × List (ℤ × ℤ)). l.0) shown ((letters line.name, line.set) ∷ []) in
-    let listed : length shown ≡ length lines = length-map {B = List ℕ × List (ℤ × ℤ)} lines (λ (l : Line). (letters l.name, l.set)) in
-    let many : place ≡ length (names_of shown) = omega (arith, e, listed, length-map shown (λ (l : List ℕ × List (ℤ × ℤ)). l.0)) in
+    let as_many : length shown ≡ length lines = length-map {B = List ℕ × List (ℤ × ℤ)} lines (λ (l : Line). (letters l.name, l.set)) in
+    let many : place ≡ length (names_of shown) = omega (arith, e, as_many, length-map shown (λ (l : List ℕ × List (ℤ × ℤ)). l.0)) in
     rw (lines_pushed lines line) (record {
       indexed = rw (grown, many) (indexed_behind (names_of shown) pairs line.name h.indexed);
       canonical = all_pushed shown (letters line.name, line.set) h.canonical c;

@@ -23,7 +23,7 @@ AreLineSteps visited names pieces steps = (earlier : List (List ℕ × Bool)) (p
     → line_value (map (λ l. l.1) earlier) p steps ≡ last_value (after_words earlier (get_or visited p (pos 0)) [] pieces)
 
 -- names with values
-abbrev pub paired : List (List ℕ) → List Bool → List (List ℕ × Bool)
-paired [] values = []
-paired (n ∷ ns) [] = []
-paired (n ∷ ns) (v ∷ vs) = (n, v) ∷ paired ns vs
+abbrev pub names_with_values : List (List ℕ) → List Bool → List (List ℕ × Bool)
+names_with_values [] values = []
+names_with_values (n ∷ ns) [] = []
+names_with_values (n ∷ ns) (v ∷ vs) = (n, v) ∷ names_with_values ns vs

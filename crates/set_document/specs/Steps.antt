@@ -16,19 +16,19 @@ IsStep lines word before after = (x : ℤ) → least ≤ℤ x → x ≤ℤ great
     → values after x ≡ after_word (at lines x) x (values before x) word
 
 -- the word of an operator of two sets
-abbrev pub kind_of : Operator → Kind
-kind_of operator.Or = Or
-kind_of operator.And = And
-kind_of operator.Minus = Minus
-kind_of operator.Xor = Xor
+abbrev pub kind_of_operator : Operator → Kind
+kind_of_operator operator.Or = Or
+kind_of_operator operator.And = And
+kind_of_operator operator.Minus = Minus
+kind_of_operator operator.Xor = Xor
 
 -- e is want of memory, or the fault at the word
 abbrev pub IsFault : Step → AlgebraError → Type 0
 IsFault step e = (e ≡ fault.NoMemory) ⊎ (step ≡ Fault e)
 
 -- what a word does to the stack after these lines: it leaves so many sets and they are its step, or it is refused with its fault
-pub record AppliesWord {T : Type 0} (lines : List (List ℕ × List (ℤ × ℤ))) (line word : ℕ) (kind : Option Kind) (before after : List (List (ℤ × ℤ)))
-    (result : Result T AlgebraError) : Type 0 where
+pub record AppliesWord {T : Type 0} (lines : List (List ℕ × List (ℤ × ℤ))) (line word : ℕ) (kind : Option Kind)
+    (before after : List (List (ℤ × ℤ))) (result : Result T AlgebraError) : Type 0 where
   pub depth : OnOk result (judge_word (names_of lines) line word (length before) kind ≡ Depth (length after))
   pub step : OnOk result (IsStep (lines_of lines) kind before after)
   pub fault : IfErr result (IsFault (judge_word (names_of lines) line word (length before) kind))

@@ -4,11 +4,11 @@ ghost use Rattle.number_line.specs.Ranges.{holds};
 ghost use Rattle.set_document.specs.Numbers.{least, greatest};
 ghost use Rattle.text_lines.specs.Lines.{words};
 ghost use Rattle.set_document.specs.Text.{form, Not};
-ghost use Rattle.set_document.specs.Truth.{after_form, named, truth};
+ghost use Rattle.set_document.specs.Truth.{after_form, named_lines, truth};
 ghost use Rattle.set_document.specs.Faults.{fault_in_words, fault_in_form, names_after, first_fault, IsWellFormed};
-ghost use Rattle.set_document.specs.Words.{shown};
+ghost use Rattle.set_document.specs.Words.{kind_of_word};
 ghost use Rattle.set_document.specs.Lines.{lines_of, names_of, Agree};
-ghost use Rattle.set_document.specs.Steps.{AppliesWord, IsFirstFault, kind_of};
+ghost use Rattle.set_document.specs.Steps.{AppliesWord, IsFirstFault, kind_of_operator};
 ghost use Rattle.set_document.specs.declared.fault.AlgebraError.TheVariants as AlgebraError;
 
 use crate::fault::AlgebraError;
@@ -72,7 +72,7 @@ fn apply_two(
     operator: Operator,
 ) -> Result<(), AlgebraError>
     ensures { (lines : List (List ℕ × List (ℤ × ℤ))) → AppliesWord lines line word
-        (Some (kind_of operator)) stack.old.items stack.new.items result }
+        (Some (kind_of_operator operator)) stack.old.items stack.new.items result }
 {
     let Some((first, second)) = pop_two(stack) else {
         return Err(AlgebraError::StackShort { line, word });
@@ -95,7 +95,7 @@ fn apply_word<'t>(
     word: usize,
     found: Option<Word<'t>>,
 ) -> Result<(), AlgebraError>
-    ensures { AppliesWord done.now line word (option_map shown found.entry) stack.old.items
+    ensures { AppliesWord done.now line word (option_map kind_of_word found.entry) stack.old.items
         stack.new.items result }
 {
     match found {
@@ -186,13 +186,13 @@ fn add_line<'t>(
 }
 
 // The named lines of a text with their sets, or its first fault.
-#[tactic(auto, unfolding(crate::specs::Faults::first_fault, crate::specs::Truth::named))]
+#[tactic(auto, unfolding(crate::specs::Faults::first_fault, crate::specs::Truth::named_lines))]
 pub(crate) fn evaluate_lines<'t>(
     alloc: Global,
     text: &'t [u8],
 ) -> Result<NamedLines<'t>, AlgebraError>
     ensures fault_free { OnOk result (IsWellFormed text.now) }
-    ensures lines { IfOk result (λ done. Agree (lines_of done) (named text.now)) }
+    ensures lines { IfOk result (λ done. Agree (lines_of done) (named_lines text.now)) }
     ensures fault { IfErr result (IsFirstFault (first_fault text.now)) }
 {
     let mut done = NamedLines::new(alloc);

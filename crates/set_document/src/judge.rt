@@ -1,11 +1,11 @@
 //! Judges a text, and gathers the numbers and ranges among its words.
 ghost use Rattle.std.specs.Prelude.{◌≡◌, ◌+◌, ◌≤◌, ◌<◌, [], ◌∷◌, ◌++◌, IfOk, IfErr, OnOk, option_map, option_copied, None};
-ghost use Rattle.set_document.specs.Faults.{judge_word as judged, operator, fault_in_words, fault_in_form, names_after, first_fault, IsWellFormed, Depth};
+ghost use Rattle.set_document.specs.Faults.{judge_word, operator, fault_in_words, fault_in_form, names_after, first_fault, IsWellFormed, Depth};
 ghost use Rattle.set_document.specs.Literals.{literal, literals, literals_of_words, literals_of_form};
 ghost use Rattle.set_document.specs.Steps.{IsFault, IsFirstFault};
 ghost use Rattle.text_lines.specs.Lines.{words};
 ghost use Rattle.set_document.specs.Text.{form};
-ghost use Rattle.set_document.specs.Words.{shown};
+ghost use Rattle.set_document.specs.Words.{kind_of_word};
 ghost use Rattle.set_document.specs.declared.fault.AlgebraError.TheVariants as AlgebraError;
 
 use crate::fault::AlgebraError;
@@ -54,13 +54,13 @@ fn judge_word(
 ) -> Result<usize, AlgebraError>
     requires room { depth < usize.MAX }
     ensures depth { IfOk result (λ left.
-        judged names.now line word depth (option_map shown found.entry)
+        judge_word names.now line word depth (option_map kind_of_word found.entry)
         ≡ Depth left) }
     ensures bound { IfOk result (λ left. left ≤ depth + 1) }
     ensures ranges { OnOk result
-        (ranges.new.items ≡ ranges.old.items ++ literal (option_map shown found.entry)) }
+        (ranges.new.items ≡ ranges.old.items ++ literal (option_map kind_of_word found.entry)) }
     ensures fault { IfErr result (IsFault
-        (judged names.now line word depth (option_map shown found.entry))) }
+        (judge_word names.now line word depth (option_map kind_of_word found.entry))) }
 {
     match found {
         Some(Word::Number(n)) => {
@@ -146,7 +146,7 @@ fn judge_line<'t>(
     }
 }
 
-/// The numbers and ranges among the words of a text, in order, or its first fault.
+// The numbers and ranges among the words of a text, in order, or its first fault.
 #[tactic(auto, unfolding(crate::specs::Faults::first_fault))]
 pub(crate) fn judge(alloc: Global, text: &[u8]) -> Result<Vec<Range<i64>>, AlgebraError>
     ensures fault_free { OnOk result (IsWellFormed text.now) }

@@ -3,7 +3,7 @@ ghost use Rattle.std.specs.Prelude.{◌≡◌, ◌∷◌, ◌++◌, [], ℤ, map
 ghost use Rattle.std.specs.List.{list_any};
 ghost use Rattle.number_line.specs.Ranges.{holds, IsCanonical};
 ghost use Rattle.set_document.specs.Lines.{line_lists_of, lines_of, names_of, AllCanonical};
-ghost use Rattle.set_document.specs.Names.{IsIndex, distinct};
+ghost use Rattle.set_document.specs.Names.{IsIndex, distinct_names};
 ghost use Rattle.set_document.specs.Numbers.{least, greatest};
 ghost use Rattle.set_document.specs.Truth.{at, latest};
 ghost use Rattle.set_document.specs.Words.{letters};
@@ -16,7 +16,7 @@ use sorted_vector_map::SortedVectorMap;
 use std::alloc::Global;
 use std::marker::Model;
 
-/// A named line and the set that its words leave.
+// A named line and the set that its words leave.
 #[derive(Drop)]
 pub(crate) struct Line<'t> {
     pub(crate) name: Name<'t>,
@@ -35,8 +35,8 @@ impl<'t> Line<'t> {
     }
 }
 
-/// The named lines in order, and for each name the place of its latest line. Contracts see the
-/// lines as names with ranges.
+// The named lines in order, and for each name the place of its latest line. Contracts see the
+// lines as names with ranges.
 #[derive(Drop)]
 pub(crate) struct NamedLines<'t> {
     lines: Vec<Line<'t>>,
@@ -51,9 +51,9 @@ impl<'t> Model for NamedLines<'t> {
     ghost use Rattle.set_document.specs.Indexed.{AreIndexed};
     ghost use Rattle.set_document.specs.Lines.{line_lists_of};
 
-    ghost view = { λ held. line_lists_of held.lines.items };
+    ghost view = { λ named. line_lists_of named.lines.items };
 
-    ghost invariant = { λ held. AreIndexed (line_lists_of held.lines.items) held.latest.pairs };
+    ghost invariant = { λ named. AreIndexed (line_lists_of named.lines.items) named.latest.pairs };
 }
 
 impl<'t> NamedLines<'t> {
@@ -86,7 +86,8 @@ impl<'t> NamedLines<'t> {
 
     // The distinct names in order, each with the place of its latest line.
     pub(crate) fn names(&self) -> &SortedVectorMap<Name<'t>, usize>
-        ensures names { map (λ p. letters p.0) result.now.pairs ≡ distinct (names_of self.now) }
+        ensures names { map (λ p. letters p.0) result.now.pairs
+            ≡ distinct_names (names_of self.now) }
         ensures indexed { IsIndex (names_of self.now) result.now.pairs }
     {
         &self.latest

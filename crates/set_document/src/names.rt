@@ -20,8 +20,8 @@ fn seconds(alloc: Global, latest: &SortedVectorMap<Name<'_>, usize>) -> Result<V
     Ok(places)
 }
 
-/// The names of the lines in order, and for each name the place of its latest line. Contracts see
-/// the list of the names.
+// The names of the lines in order, and for each name the place of its latest line. Contracts see
+// the list of the names.
 #[derive(Drop)]
 pub(crate) struct Names<'t> {
     list: Vec<Name<'t>>,

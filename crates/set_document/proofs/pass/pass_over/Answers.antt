@@ -4,8 +4,8 @@ use Rattle.std.proofs.lemmas.List.{length-map}
 use Rattle.cut_points.specs.Cuts.{from_cuts}
 use Rattle.set_document.specs.Literals.{literal_cuts}
 use Rattle.set_document.specs.Numbers.{greatest}
-use Rattle.set_document.specs.Truth.{named}
-use Rattle.set_document.specs.Visits.{closed}
+use Rattle.set_document.specs.Truth.{named_lines}
+use Rattle.set_document.specs.Visits.{rows_with_ends}
 use Rattle.set_document.specs.Words.{letters}
 use Rattle.truth_blocks.specs.Blocks.{steps_of, values_of}
 use Rattle.truth_blocks.specs.Notes.{state, states, walk_places, no_notes}
@@ -20,7 +20,7 @@ compile-requires c = walk_rises (literal_cuts c.args.text.now) c.args.visited.no
 pub one_pass-requires : goal.one_pass-requires
 one_pass-requires c =
     let p = c.in_ok-lines.field-0 in
-    let within = shown_within p.names c.in_ok-shown.shown.items c.in_ok-shown.ensures in
+    let within = shown_within p.names c.in_ok-places.places.items c.in_ok-places.ensures in
     let within2 = rw c.in_ok-lines.ensures.len at within in
     rw (c.deref.ensures.value, c.deref-2.ensures.value) within2
 
@@ -43,7 +43,7 @@ pub close_rows-requires : goal.close_rows-requires
 close_rows-requires c =
     let steps = steps_of c.in_ok-lines.field-0.lines.items in
     let begun = rw (c.deref.ensures.value, c.deref-2.ensures.value) at c.in_ok-notes.ensures.rows in
-    rw begun (rows_ascending (label_of steps c.in_ok-shown.shown.items) (literal_cuts c.args.text.now) c.args.visited.now c.requires)
+    rw begun (rows_ascending (label_of steps c.in_ok-places.places.items) (literal_cuts c.args.text.now) c.args.visited.now c.requires)
 
 pub with_names-requires : goal.with_names-requires
 with_names-requires c = record {
@@ -67,7 +67,7 @@ pub returns-clause-rows : goal.returns-clause-rows
 returns-clause-rows c =
     let p = c.in_ok-lines.field-0 in
     let text = c.args.text.now in
-    let same : p.names ≡ map (λ l. l.0) (named text) = c.in_ok-lines.ensures.names (walk_some (literal_cuts text) c.args.visited.now c.requires) in
-    let shown = rw same at c.in_ok-shown.ensures in
+    let same : p.names ≡ map (λ l. l.0) (named_lines text) = c.in_ok-lines.ensures.names (walk_some (literal_cuts text) c.args.visited.now c.requires) in
+    let shown = rw same at c.in_ok-places.ensures in
     let begun = rw (c.deref.ensures.value, c.deref-2.ensures.value) at c.in_ok-notes.ensures.rows in
-    c.in_ok-table.ensures ∙ (ap (closed greatest) begun ∙ rows_are_table text (steps_of p.lines.items) c.args.visited.now c.in_ok-shown.shown.items c.requires c.in_ok-lines.ensures.steps shown)
+    c.in_ok-table.ensures ∙ (ap (rows_with_ends greatest) begun ∙ rows_are_table text (steps_of p.lines.items) c.args.visited.now c.in_ok-places.places.items c.requires c.in_ok-lines.ensures.steps shown)

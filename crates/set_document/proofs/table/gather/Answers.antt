@@ -23,23 +23,23 @@ loop-place-init c =
 pub loop-place-preserved : goal.loop-place-preserved
 loop-place-preserved c =
     let lines = c.args.done.now in
-    let held = c.lines-lines.result.now in
+    let items = c.lines-lines.result.now in
     let i = c.loop-place.invariant in
     let left = c.loop-place.place-iterator in
     let rest = c.next.new.self in
     let name = c.in-Some.field-0-0.now in
     let place = c.in-Some.place.now in
     let next = c.in-Some.ensures.steps in
-    let many : length lines ≡ length held =
-    ap length (sym c.lines-lines.ensures.lines) ∙ length-map {B = List ℕ × List (ℤ × ℤ)} held (λ (l : Line). (letters l.name, l.set)) in
+    let many : length lines ≡ length items =
+    ap length (sym c.lines-lines.ensures.lines) ∙ length-map {B = List ℕ × List (ℤ × ℤ)} items (λ (l : Line). (letters l.name, l.set)) in
     elim c.match-get.branch [
       | in-Some-get+in_ok-push_ranges w ↦
           let at_place = w.in-Some-get.ensures.lookup in
           let line = w.in-Some-get.line.now in
           record {
             grouped = λ x.
-                rw w.holders-is (name_put_in lines left rest name place i.placed next c.loop-place.holders w.push_ranges.new.holders c.loop-place.position (letters line.name, line.set)
-                c.lines-lines.ensures.canonical (omega (arith, many, at_place.3.0)) (rw c.lines-lines.ensures.lines at (line_at held place line at_place.1)) w.in_ok-push_ranges.ensures x ∙ i.grouped x);
+                rw w.holders-is (name_put_in lines left rest name place i.placed next c.loop-place.holders w.push_ranges.new.holders c.loop-place.index (letters line.name, line.set)
+                c.lines-lines.ensures.canonical (omega (arith, many, at_place.3.0)) (rw c.lines-lines.ensures.lines at (line_at items place line at_place.1)) w.in_ok-push_ranges.ensures x ∙ i.grouped x);
             placed = placed_rest (names_of lines) left rest name place i.placed next;
             count = omega (arith, i.count, ap length next);
           }

@@ -24,24 +24,24 @@ returns-in_err-place-clause-known c =
 
 pub returns-in_err-line : goal.returns-in_err-line
 returns-in_err-line c =
-    let held = c.self.inside.lines.items in
-    let lines = line_lists_of held in
+    let items = c.self.inside.lines.items in
+    let lines = line_lists_of items in
     let name = letters c.args.name.now in
     let place = c.in_ok-place.place.now in
     let some : last_place (names_of lines) name ≡ Some place = sym (c.self.invariant.indexed.finds c.args.name.now) ∙ sym c.in_ok-place.ensures in
-    let many : length lines ≡ length held = length-map {B = List ℕ × List (ℤ × ℤ)} held (λ (l : Line). (letters l.name, l.set)) in
-    let beyond : length held ≤ place = rw c.deref.ensures.value at c.in_err-line.ensures.lookup.3 in
+    let many : length lines ≡ length items = length-map {B = List ℕ × List (ℤ × ℤ)} items (λ (l : Line). (letters l.name, l.set)) in
+    let beyond : length items ≤ place = rw c.deref.ensures.value at c.in_err-line.ensures.lookup.3 in
     absurd (line_at_place lines name place some (omega (arith, many, beyond)))
 
 pub returns-clause-truth : goal.returns-clause-truth
 returns-clause-truth c =
-    let held = c.self.inside.lines.items in
-    let lines = line_lists_of held in
+    let items = c.self.inside.lines.items in
+    let lines = line_lists_of items in
     let name = letters c.args.name.now in
     let place = c.in_ok-place.place.now in
     let line = c.in_ok-line.line.now in
     let some : last_place (names_of lines) name ≡ Some place = sym (c.self.invariant.indexed.finds c.args.name.now) ∙ sym c.in_ok-place.ensures in
-    let there = line_at held place line (rw c.deref.ensures.value at c.in_ok-line.ensures.lookup.1) in
+    let there = line_at items place line (rw c.deref.ensures.value at c.in_ok-line.ensures.lookup.1) in
     λ x. rw (← c.self.view_is) (something_latest lines name x place (letters line.name, line.set) some there)
 
 pub returns-clause-known : goal.returns-clause-known
