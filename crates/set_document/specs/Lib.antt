@@ -10,6 +10,7 @@ pub mod Labels
 pub mod Words
 pub mod Lines
 pub mod Names
+pub mod Indexed
 pub mod Steps
 pub mod Laws
 pub mod Sample

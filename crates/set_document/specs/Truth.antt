@@ -57,5 +57,5 @@ abbrev pub after_lines : Lines → List (List ℕ) → Lines
 after_lines lines pieces = fold (λ ls piece. after_form ls (form piece)) lines pieces
 
 -- the named lines of a text in order, each with its name and its truth at every number
-unfoldable pub named : List ℕ → Lines
-named text = after_lines [] (lines text)
+unfoldable pub named_lines : List ℕ → Lines
+named_lines text = after_lines [] (lines text)

@@ -1,10 +1,8 @@
 //! Reads the lines of a document.
-ghost use Rattle.std.specs.Prelude.{◌≡◌, ◌+◌, ◌<◌, ◌≤◌, ◌==◌, ◌∷◌, ◌++◌, length, List, Option, option_copied};
-ghost use Rattle.std.specs.List.{slice_split, prefix_len};
-ghost use Rattle.text_lines.specs.Lines.{lines, words};
+ghost use Rattle.std.specs.Prelude.{◌≡◌, ◌≤◌, length, List, Option};
+ghost use Rattle.std.specs.List.{prefix_len};
 ghost use Rattle.set_document.specs.Text.{form, form_of_body, form_of_named, form_after, is_letter, is_name};
-ghost use Rattle.set_document.specs.Words.{shown_form};
-ghost use Rattle.text_lines.specs.Lines.{left_len};
+ghost use Rattle.set_document.specs.Words.{form_of_line};
 
 use crate::word::{Name, is_letters};
 
@@ -39,7 +37,7 @@ fn is_name(piece: &[u8]) -> bool
 }
 
 fn read_after<'t>(name: &'t [u8], rest: &'t [u8]) -> LineForm<'t>
-    ensures { shown_form result ≡ form_after name.now rest.now }
+    ensures { form_of_line result ≡ form_after name.now rest.now }
 {
     match rest {
         [b':'] => LineForm::Named(Name::new(name), None),
@@ -49,7 +47,7 @@ fn read_after<'t>(name: &'t [u8], rest: &'t [u8]) -> LineForm<'t>
 }
 
 fn read_named<'t>(body: &'t [u8]) -> LineForm<'t>
-    ensures { shown_form result ≡ form_of_named body.now }
+    ensures { form_of_line result ≡ form_of_named body.now }
 {
     let (name, rest) = body.split_at(letters_len(body));
     if is_name(name) {
@@ -60,7 +58,7 @@ fn read_named<'t>(body: &'t [u8]) -> LineForm<'t>
 }
 
 fn read_body<'t>(body: &'t [u8]) -> LineForm<'t>
-    ensures { shown_form result ≡ form_of_body body.now }
+    ensures { form_of_line result ≡ form_of_body body.now }
 {
     match body {
         [b'#', ..] => LineForm::Comment,
@@ -68,13 +66,13 @@ fn read_body<'t>(body: &'t [u8]) -> LineForm<'t>
     }
 }
 
-/// The form of one line, given with its line feed where it has one. A name is one or more letters
-/// of `a` to `z`, and not `empty` or `full`. Any bytes may be handed in: what is no comment and no
-/// named line is bad.
+/// Returns the form of one line, given with its line feed where it has one. A name is one or more
+/// letters of `a` to `z`, and not `empty` or `full`. Any bytes may be handed in: what is no comment
+/// and no named line is bad.
 ///
-/// O(n) in the length of the name, and takes no memory.
+/// O(n) time in the length of the name, no memory.
 pub fn read_line<'t>(piece: &'t [u8]) -> LineForm<'t>
-    ensures { shown_form result ≡ form piece.now }
+    ensures { form_of_line result ≡ form piece.now }
 {
     match piece {
         [body @ .., b'\n'] => read_body(body),

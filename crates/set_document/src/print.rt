@@ -2,7 +2,7 @@
 ghost use Rattle.std.specs.Prelude.{◌≡◌, ◌++◌, ℤ, OnOk, map};
 ghost use Rattle.set_document.specs.Words.{letters};
 ghost use Rattle.set_document.specs.Answer.{range_text, further_text, list_text, line_text, lines_text, name_text, row_text, rows_text};
-ghost use Rattle.set_document.specs.Lines.{shown_lines};
+ghost use Rattle.set_document.specs.Lines.{line_lists_of};
 ghost use Rattle.set_document.specs.Tabled.{table_rows};
 
 use crate::named_lines::Line;
@@ -59,7 +59,7 @@ pub(crate) fn push_line(out: &mut Vec<u8>, line: &Line<'_>) -> Result<(), NoMemo
 
 // Writes the lines in order.
 pub(crate) fn push_lines(out: &mut Vec<u8>, lines: &[Line<'_>]) -> Result<(), NoMemory>
-    ensures { OnOk result (out.new.items ≡ out.old.items ++ lines_text (shown_lines lines.now)) }
+    ensures { OnOk result (out.new.items ≡ out.old.items ++ lines_text (line_lists_of lines.now)) }
 {
     for line in lines {
         push_line(out, line)?;
@@ -67,17 +67,17 @@ pub(crate) fn push_lines(out: &mut Vec<u8>, lines: &[Line<'_>]) -> Result<(), No
     Ok(())
 }
 
-// Writes the name at a position, after a space.
+// Writes the name at a index, after a space.
 fn push_name(
     out: &mut Vec<u8>,
     names: &SortedVectorMap<Name<'_>, usize>,
-    position: usize,
+    index: usize,
 ) -> Result<(), NoMemory>
     ensures { OnOk result
         (out.new.items ≡ out.old.items ++ name_text
-        (map (λ p. letters p.0) names.now.pairs) position) }
+        (map (λ p. letters p.0) names.now.pairs) index) }
 {
-    let Some((name, _)) = names.get_key_value_at_index(position) else {
+    let Some((name, _)) = names.get_key_value_at_index(index) else {
         return Ok(());
     };
     out.extend_from_slice(b" ")?;
@@ -90,16 +90,16 @@ fn push_row(
     out: &mut Vec<u8>,
     names: &SortedVectorMap<Name<'_>, usize>,
     range: &Range<i64>,
-    held: &[usize],
+    indices: &[usize],
 ) -> Result<(), NoMemory>
     ensures { OnOk result
         (out.new.items ≡ out.old.items ++ row_text (map (λ p. letters p.0) names.now.pairs)
-        (range.now, held.now)) }
+        (range.now, indices.now)) }
 {
     out.extend_from_slice(b"# ")?;
     push_range(out, range)?;
-    for position in held {
-        push_name(out, names, *position)?;
+    for index in indices {
+        push_name(out, names, *index)?;
     }
     out.extend_from_slice(b"\n")?;
     Ok(())
@@ -116,7 +116,7 @@ pub(crate) fn push_rows(
         (table_rows rows.now)) }
 {
     for row in rows {
-        push_row(out, names, &row.numbers, &row.held)?;
+        push_row(out, names, &row.numbers, &row.names)?;
     }
     Ok(())
 }
@@ -153,8 +153,8 @@ fn line_len(line: &Line<'_>) -> usize {
 // How many bytes a row takes, or a few more.
 fn row_len(names: &SortedVectorMap<Name<'_>, usize>, row: &TableRow) -> usize {
     let mut total = range_len(&row.numbers);
-    for position in &row.held {
-        if let Some((name, _)) = names.get_key_value_at_index(*position) {
+    for index in &row.names {
+        if let Some((name, _)) = names.get_key_value_at_index(*index) {
             total = total.saturating_add(name.as_bytes().len().saturating_add(1));
         }
     }

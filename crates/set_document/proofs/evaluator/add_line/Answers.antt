@@ -10,9 +10,9 @@ use Rattle.set_document.proofs.evaluator.add_line.Goals as goal
 
 pub returns-in_ok-push-in-Named-clause-lines : goal.returns-in_ok-push-in-Named-clause-lines
 returns-in_ok-push-in-Named-clause-lines c =
-    let done = c.args.done.now.lines.items in
+    let done = c.args.done.now in
     let f : Named c.in-Named.name.bytes.now (option_copied c.in-Named.words) ≡ form c.args.piece.now = c.in-Named.ensures in
     let t = c.in_ok-set-in-Named.ensures.truth in
     let set = c.in_ok-set-in-Named.set in
-    rw (c.in_ok-push-in-Named.ensures.lines, lines_of_push, ← f)
+    rw (c.in_ok-push-in-Named.ensures, lines_of_push, ← f)
     (push_agrees (lines_of done) (lines_of done) c.in-Named.name.bytes.now (holds set) (truth (lines_of done) (words (option_copied c.in-Named.words))) (agree_refl (lines_of done)) t)

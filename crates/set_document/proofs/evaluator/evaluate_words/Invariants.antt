@@ -11,11 +11,11 @@ use Rattle.set_document.proofs.evaluator.evaluate_words.Given as goal
 
 abbrev pub invariant-loop-left : goal.invariant-loop-left
 invariant-loop-left l = record {
-  fault : fault_in_words (names_of l.done.lines.items) l.line l.word (length l.stack.items) (words (option_copied l.left))
-      ≡ fault_in_words (names_of l.done.lines.items) l.line 1 0 (words (option_copied l.rest));
+  fault : fault_in_words (names_of l.done) l.line l.word (length l.stack.items) (words (option_copied l.left))
+      ≡ fault_in_words (names_of l.done) l.line 1 0 (words (option_copied l.rest));
   values : (x : ℤ) → least ≤ℤ x → x ≤ℤ greatest
-      → after_words (at (lines_of l.done.lines.items) x) x (values l.stack.items x) (words (option_copied l.left))
-      ≡ after_words (at (lines_of l.done.lines.items) x) x [] (words (option_copied l.rest));
+      → after_words (at (lines_of l.done) x) x (values l.stack.items x) (words (option_copied l.left))
+      ≡ after_words (at (lines_of l.done) x) x [] (words (option_copied l.rest));
   count : l.word + left_len (option_copied l.left) ≤ left_len (option_copied l.rest) + 1;
 }
 
