@@ -1,5 +1,6 @@
 -- The names of a document as rows write them, one behind the other in one piece.
 use Rattle.std.specs.Prelude.{◌≡◌, ℕ, zero, suc, ◌≤◌, ◌++◌, List, [], ◌∷◌, length, take, codes, flat_map, slice_get, Some}
+use Rattle.set_document.specs.declared.labels.Labels.{Labels}
 
 -- a name behind a space
 abbrev pub label : List ℕ → List ℕ
@@ -14,6 +15,9 @@ pub record AreLabels (names : List (List ℕ)) (bytes starts : List ℕ) : Type 
   pub one_piece : bytes ≡ flat_map label names
   pub begin : (i : ℕ) → i ≤ length names → slice_get starts i ≡ Some (label_start names i)
   pub each : length starts ≡ suc (length names)
+
+abbrev pub HasLabels : List (List ℕ) → Labels → Type 0
+HasLabels names labels = AreLabels names labels.bytes.items labels.starts.items
 
 -- so many places that follow each other, from a first one on
 abbrev pub places_from : ℕ → ℕ → List ℕ

@@ -13,6 +13,7 @@ use crate::fault::AlgebraError;
 use crate::judge::judge;
 use crate::named_lines::NamedLines;
 use crate::pass::{numbers_to_visit, pass_over};
+use crate::labels::Labels;
 use crate::print::{push_lines, push_rows, room_for};
 use crate::table::{TableRow, rows_by_sets};
 use crate::word::Name;
@@ -124,10 +125,10 @@ impl<'t> Answer<'t> {
         ensures { IfOk result (λ bytes. bytes.items ≡ shape_text self.now) }
     {
         let lines = self.done.lines();
-        let names = self.done.names();
-        let mut out = Vec::with_capacity(alloc, room_for(lines, names, &self.rows))?;
+        let labels = Labels::new(alloc, self.done.names())?;
+        let mut out = Vec::with_capacity(alloc, room_for(lines, &labels, &self.rows))?;
         push_lines(&mut out, lines)?;
-        push_rows(&mut out, names, &self.rows)?;
+        push_rows(&mut out, &labels, &self.rows)?;
         Ok(out)
     }
 }

@@ -2,7 +2,7 @@
 //! are written at once.
 ghost use Rattle.std.specs.Prelude.{◌≡◌, ◌==◌, ℕ, ◌+◌, ◌-◌, ◌<◌, ◌≤◌, ◌++◌, List, IfOk, OnOk, length, map, take, drop, flat_map, get_or};
 ghost use Rattle.set_document.specs.Answer.{name_text};
-ghost use Rattle.set_document.specs.Labels.{AreLabels, label, label_start, places_from};
+ghost use Rattle.set_document.specs.Labels.{HasLabels, label, label_start, places_from};
 ghost use Rattle.set_document.specs.Words.{letters};
 
 use crate::word::Name;
@@ -23,8 +23,7 @@ impl Labels {
         alloc: Global,
         names: &SortedVectorMap<Name<'_>, usize>,
     ) -> Result<Labels, NoMemory>
-        ensures { IfOk result (λ labels. AreLabels (map (λ p. letters p.0) names.now.pairs)
-            labels.bytes.items labels.starts.items) }
+        ensures { IfOk result (HasLabels (map (λ p. letters p.0) names.now.pairs)) }
     {
         let mut bytes = Vec::new(alloc);
         let mut starts = Vec::with_capacity(alloc, names.len().saturating_add(1))?;
@@ -39,8 +38,8 @@ impl Labels {
 
     // Where the label at a place begins, or where the last one ends.
     fn start(&self, place: usize) -> usize
-        ensures { (names : List (List ℕ)) → AreLabels names self.now.bytes.items
-            self.now.starts.items → result ≡ label_start names place }
+        ensures { (names : List (List ℕ)) → HasLabels names self.now
+            → result ≡ label_start names place }
     {
         match self.starts.get(place) {
             Some(start) => *start,
@@ -50,8 +49,8 @@ impl Labels {
 
     // The labels of so many names from a place on.
     pub(crate) fn run(&self, first: usize, count: usize) -> &[u8]
-        ensures { (names : List (List ℕ)) → AreLabels names self.now.bytes.items
-            self.now.starts.items → result.now ≡ flat_map label (take count (drop first names)) }
+        ensures { (names : List (List ℕ)) → HasLabels names self.now
+            → result.now ≡ flat_map label (take count (drop first names)) }
     {
         let behind = first.saturating_add(count).min(self.starts.len());
         match self.bytes.get(self.start(first)..self.start(behind)) {
@@ -88,9 +87,8 @@ pub(crate) fn push_names(
     labels: &Labels,
     places: &[usize],
 ) -> Result<(), NoMemory>
-    ensures { OnOk result ((names : List (List ℕ)) → AreLabels names labels.now.bytes.items
-        labels.now.starts.items
-        → out.new.items ≡ out.old.items ++ flat_map (name_text names) places.now) }
+    ensures { (names : List (List ℕ)) → HasLabels names labels.now → OnOk result
+        (out.new.items ≡ out.old.items ++ flat_map (name_text names) places.now) }
 {
     let mut at = 0;
     while at < places.len() {

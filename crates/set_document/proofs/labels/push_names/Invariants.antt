@@ -2,12 +2,12 @@
 use Rattle.std.proofs.Common.{◌≡◌, ◌≤◌, ◌-◌, ◌++◌, ℕ, List, length, drop}
 use Rattle.std.specs.Prelude.{flat_map}
 use Rattle.set_document.specs.Answer.{name_text}
-use Rattle.set_document.specs.Labels.{AreLabels}
+use Rattle.set_document.specs.Labels.{HasLabels}
 use Rattle.set_document.proofs.labels.push_names.Given as goal
 
 abbrev pub invariant-loop-at : goal.invariant-loop-at
 invariant-loop-at l = (l.at ≤ length l.places)
-    × ((names : List (List ℕ)) → AreLabels names l.labels.bytes.items l.labels.starts.items
+    × ((names : List (List ℕ)) → HasLabels names l.labels
     → l.out.items ++ flat_map (name_text names) (drop l.at l.places) ≡ l.initial.out.items ++ flat_map (name_text names) l.places)
 
 abbrev pub decreases-loop-at : goal.decreases-loop-at

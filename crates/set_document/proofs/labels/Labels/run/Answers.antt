@@ -1,4 +1,4 @@
-use Rattle.std.proofs.Common.{◌≡◌, ◌+◌, ◌<◌, ◌≤◌, arith, inl, inr, length, rules, ◌∙◌, ap}
+use Rattle.std.proofs.Common.{◌≡◌, ◌+◌, ◌≤◌, arith, inl, inr, length, rules, ◌∙◌, ap}
 use Rattle.std.specs.Prelude.{min}
 use Rattle.std.specs.List.{slice_range}
 use Rattle.set_document.proofs.LabelLemmas.{run_is, run_within}
