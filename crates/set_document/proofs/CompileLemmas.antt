@@ -13,11 +13,12 @@ use Rattle.truth_blocks.specs.Stack.{last_value}
 use Rattle.set_document.specs.Names.{last_place}
 use Rattle.truth_blocks.specs.Blocks.{line_value, values_of, steps_of}
 use Rattle.truth_blocks.proofs.WalkLemmas.{length_values}
-use Rattle.set_document.specs.Compile.{known, AreLineSteps, paired}
+use Rattle.set_document.specs.Compile.{AreLineSteps, names_with_values}
 use Rattle.set_document.specs.Visits.{values_at}
 use Rattle.truth_blocks.specs.declared.block.LineSteps.{LineSteps}
-use Rattle.set_document.specs.Text.{Named, form, words, lines}
-use Rattle.set_document.specs.Truth.{Lines, at, named}
+use Rattle.text_lines.specs.Lines.{words, lines}
+use Rattle.set_document.specs.Text.{Named, form}
+use Rattle.set_document.specs.Truth.{Lines, at, named_lines}
 use Rattle.set_document.specs.Words.{letters}
 use Rattle.set_document.specs.declared.word.Name.{Name}
 use Rattle.set_document.proofs.TruthLemmas.{at_named, lines_at, line_turn}
@@ -107,18 +108,18 @@ tells_after x xs r point p k = elim (cases_lt p r) [
 
 -- ---- one more line
 
-pub firsts : (ns : List (List ℕ)) (vs : List Bool) → length ns ≡ length vs → map (λ l. l.0) (paired ns vs) ≡ ns
+pub firsts : (ns : List (List ℕ)) (vs : List Bool) → length ns ≡ length vs → map (λ l. l.0) (names_with_values ns vs) ≡ ns
 firsts [] vs e = refl
 firsts (n ∷ ns) [] e = absurd (omega arith)
 firsts (n ∷ ns) (v ∷ vs) e = ap (λ l. n ∷ l) (firsts ns vs (omega arith))
 
-pub seconds : (ns : List (List ℕ)) (vs : List Bool) → length ns ≡ length vs → map (λ l. l.1) (paired ns vs) ≡ vs
+pub seconds : (ns : List (List ℕ)) (vs : List Bool) → length ns ≡ length vs → map (λ l. l.1) (names_with_values ns vs) ≡ vs
 seconds [] [] e = refl
 seconds [] (v ∷ vs) e = absurd (omega arith)
 seconds (n ∷ ns) [] e = absurd (omega arith)
 seconds (n ∷ ns) (v ∷ vs) e = ap (λ l. v ∷ l) (seconds ns vs (omega arith))
 
-pub paired_behind : (ns : List (List ℕ)) (vs : List Bool) (n : List ℕ) (v : Bool) → length ns ≡ length vs → paired (ns ++ n ∷ []) (vs ++ v ∷ []) ≡ paired ns vs ++ (n, v) ∷ []
+pub paired_behind : (ns : List (List ℕ)) (vs : List Bool) (n : List ℕ) (v : Bool) → length ns ≡ length vs → names_with_values (ns ++ n ∷ []) (vs ++ v ∷ []) ≡ names_with_values ns vs ++ (n, v) ∷ []
 paired_behind [] [] n v e = refl
 paired_behind [] (w ∷ vs) n v e = absurd (omega arith)
 paired_behind (m ∷ ns) [] n v e = absurd (omega arith)
@@ -133,38 +134,37 @@ length_of_values p lines = let a = length_values p [] lines in omega (arith, a)
 
 -- how the pairs grow by a line
 pub pairs_grow : (names : List (List ℕ)) (lines : List (List Step)) (name : List ℕ) (steps : List Step) (p : ℕ) → length names ≡ length lines
-    → paired (names ++ name ∷ []) (values_of (lines ++ steps ∷ []) p) ≡ paired names (values_of lines p) ++ (name, line_value (values_of lines p) p steps) ∷ []
+    → names_with_values (names ++ name ∷ []) (values_of (lines ++ steps ∷ []) p) ≡ names_with_values names (values_of lines p) ++ (name, line_value (values_of lines p) p steps) ∷ []
 pairs_grow names lines name steps p e =
     rw (values_behind lines steps p) (paired_behind names (values_of lines p) name (line_value (values_of lines p) p steps) (e ∙ sym (length_of_values p lines)))
 
 -- what the line gives
 pub line_gives : (visited : List ℤ) (names : List (List ℕ)) (lines : List (List Step)) (pieces : List (List ℕ)) (steps : List Step) (p : ℕ) → length names ≡ length lines
     → p < length visited → AreLineSteps visited names pieces steps
-    → line_value (values_of lines p) p steps ≡ last_value (after_words (paired names (values_of lines p)) (get_or visited p (pos 0)) [] pieces)
+    → line_value (values_of lines p) p steps ≡ last_value (after_words (names_with_values names (values_of lines p)) (get_or visited p (pos 0)) [] pieces)
 line_gives visited names lines pieces steps p e k h =
     let n : length names ≡ length (values_of lines p) = e ∙ sym (length_of_values p lines) in
-    rw (seconds names (values_of lines p) n) at (h (paired names (values_of lines p)) p (firsts names (values_of lines p) n) k)
+    rw (seconds names (values_of lines p) n) at (h (names_with_values names (values_of lines p)) p (firsts names (values_of lines p) n) k)
 
 -- nothing compiled yet
-pub compile_begin : (text : List ℕ) (x : ℤ) (ns : List Name) (done : List LineSteps) (p : ℕ) → ns ≡ []
-    → lines_at x (paired (known ns) (values_of (steps_of done) p)) (lines text) ≡ at (named text) x
+pub compile_begin : (text : List ℕ) (x : ℤ) (ns : List (List ℕ)) (done : List LineSteps) (p : ℕ) → ns ≡ []
+    → lines_at x (names_with_values ns (values_of (steps_of done) p)) (lines text) ≡ at (named_lines text) x
 compile_begin text x ns done p e = rw e (sym (at_named x text))
 
 -- one more line
-pub compile_turn : (visited : List ℤ) (ns ns' : List Name) (done done' : List LineSteps) (name : Name) (line : LineSteps) (rest : Option (List ℕ)) (piece : List ℕ) (pieces : List (List ℕ)) (p : ℕ)
-    → ns' ≡ ns ++ name ∷ [] → done' ≡ done ++ line ∷ [] → length ns ≡ length done → p < length visited → Named (letters name) rest ≡ form piece
-    → AreLineSteps visited (known ns) (words rest) line.steps.items
-    → lines_at (get_or visited p (pos 0)) (paired (known ns') (values_of (steps_of done') p)) pieces ≡ lines_at (get_or visited p (pos 0)) (paired (known ns) (values_of (steps_of done) p)) (piece ∷ pieces)
+pub compile_turn : (visited : List ℤ) (ns ns' : List (List ℕ)) (done done' : List LineSteps) (name : Name) (line : LineSteps) (rest : Option (List ℕ)) (piece : List ℕ) (pieces : List (List ℕ)) (p : ℕ)
+    → ns' ≡ ns ++ letters name ∷ [] → done' ≡ done ++ line ∷ [] → length ns ≡ length done → p < length visited → Named (letters name) rest ≡ form piece
+    → AreLineSteps visited ns (words rest) line.steps.items
+    → lines_at (get_or visited p (pos 0)) (names_with_values ns' (values_of (steps_of done') p)) pieces ≡ lines_at (get_or visited p (pos 0)) (names_with_values ns (values_of (steps_of done) p)) (piece ∷ pieces)
 compile_turn visited ns ns' done done' name line rest piece pieces p e f n k w h =
     let x = get_or visited p (pos 0) in
     let steps = line.steps.items in
-    let many : length (known ns) ≡ length (steps_of done) = length-map ns letters ∙ (n ∙ sym (length-map done (λ l. l.steps.items))) in
-    let names : known (ns ++ name ∷ []) ≡ known ns ++ letters name ∷ [] = map-append letters ns (name ∷ []) in
+    let many : length ns ≡ length (steps_of done) = n ∙ sym (length-map done (λ l. l.steps.items)) in
     let compiled : steps_of (done ++ line ∷ []) ≡ steps_of done ++ steps ∷ [] = map-append (λ l. l.steps.items) done (line ∷ []) in
-    let grown : paired (known ns') (values_of (steps_of done') p) ≡ paired (known ns) (values_of (steps_of done) p) ++ (letters name, line_value (values_of (steps_of done) p) p steps) ∷ [] =
-    rw (e, f, names, compiled) (pairs_grow (known ns) (steps_of done) (letters name) steps p many) in
-    line_turn x (paired (known ns) (values_of (steps_of done) p)) (paired (known ns') (values_of (steps_of done') p)) piece pieces (letters name) rest
-    (line_value (values_of (steps_of done) p) p steps) w (line_gives visited (known ns) (steps_of done) (words rest) steps p many k h) grown
+    let grown : names_with_values ns' (values_of (steps_of done') p) ≡ names_with_values ns (values_of (steps_of done) p) ++ (letters name, line_value (values_of (steps_of done) p) p steps) ∷ [] =
+    rw (e, f, compiled) (pairs_grow ns (steps_of done) (letters name) steps p many) in
+    line_turn x (names_with_values ns (values_of (steps_of done) p)) (names_with_values ns' (values_of (steps_of done') p)) piece pieces (letters name) rest
+    (line_value (values_of (steps_of done) p) p steps) w (line_gives visited ns (steps_of done) (words rest) steps p many k h) grown
 
 pub second_at : (ls : Lines) (x : ℤ) → map (λ l. l.1) (at ls x) ≡ values_at ls x
 unfolding values_at
@@ -172,18 +172,18 @@ second_at [] x = refl
 second_at (l ∷ ls) x = ap (λ t. l.1 x ∷ t) (second_at ls x)
 
 -- all lines
-pub compile_end : (text : List ℕ) (x : ℤ) (ns : List Name) (done : List LineSteps) (p : ℕ) → length ns ≡ length done
-    → paired (known ns) (values_of (steps_of done) p) ≡ at (named text) x → values_of (steps_of done) p ≡ values_at (named text) x
+pub compile_end : (text : List ℕ) (x : ℤ) (ns : List (List ℕ)) (done : List LineSteps) (p : ℕ) → length ns ≡ length done
+    → names_with_values ns (values_of (steps_of done) p) ≡ at (named_lines text) x → values_of (steps_of done) p ≡ values_at (named_lines text) x
 compile_end text x ns done p n e =
-    let many : length (known ns) ≡ length (steps_of done) = length-map ns letters ∙ (n ∙ sym (length-map done (λ l. l.steps.items))) in
-    sym (seconds (known ns) (values_of (steps_of done) p) (many ∙ sym (length_of_values p (steps_of done)))) ∙ (ap (map (λ l. l.1)) e ∙ second_at (named text) x)
+    let many : length ns ≡ length (steps_of done) = n ∙ sym (length-map done (λ l. l.steps.items)) in
+    sym (seconds ns (values_of (steps_of done) p) (many ∙ sym (length_of_values p (steps_of done)))) ∙ (ap (map (λ l. l.1)) e ∙ second_at (named_lines text) x)
 
 pub names_at : (ls : Lines) (x : ℤ) → map (λ l. l.0) (at ls x) ≡ map (λ l. l.0) ls
 names_at [] x = refl
 names_at (l ∷ ls) x = ap (λ t. l.0 ∷ t) (names_at ls x)
 
-pub compile_names : (text : List ℕ) (x : ℤ) (ns : List Name) (done : List LineSteps) (p : ℕ) → length ns ≡ length done
-    → paired (known ns) (values_of (steps_of done) p) ≡ at (named text) x → known ns ≡ map (λ l. l.0) (named text)
+pub compile_names : (text : List ℕ) (x : ℤ) (ns : List (List ℕ)) (done : List LineSteps) (p : ℕ) → length ns ≡ length done
+    → names_with_values ns (values_of (steps_of done) p) ≡ at (named_lines text) x → ns ≡ map (λ l. l.0) (named_lines text)
 compile_names text x ns done p n e =
-    let many : length (known ns) ≡ length (steps_of done) = length-map ns letters ∙ (n ∙ sym (length-map done (λ l. l.steps.items))) in
-    sym (firsts (known ns) (values_of (steps_of done) p) (many ∙ sym (length_of_values p (steps_of done)))) ∙ (ap (map (λ l. l.0)) e ∙ names_at (named text) x)
+    let many : length ns ≡ length (steps_of done) = n ∙ sym (length-map done (λ l. l.steps.items)) in
+    sym (firsts ns (values_of (steps_of done) p) (many ∙ sym (length_of_values p (steps_of done)))) ∙ (ap (map (λ l. l.0)) e ∙ names_at (named_lines text) x)

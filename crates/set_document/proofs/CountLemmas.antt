@@ -3,7 +3,7 @@ use Rattle.std.proofs.Common.{ℕ, ◌≤◌, List, [], ◌∷◌, ◌++◌, len
 use Rattle.std.specs.Prelude.{ℤ, sum_by, flat_map}
 use Rattle.std.specs.Fmt.{signed_decimal}
 use Rattle.std.proofs.lemmas.List.Sums.{sum_by-cons}
-use Rattle.set_document.specs.Answer.{Shape, printed, range_text, further_text, list_text, line_text, lines_text, rows_text}
+use Rattle.set_document.specs.Answer.{Shape, shape_text, range_text, further_text, list_text, line_text, lines_text, rows_text}
 
 range_some : (r : ℤ × ℤ) → 1 ≤ length (range_text r)
 range_some r = omega (arith, length-append (signed_decimal r.0) (46 ∷ 46 ∷ 61 ∷ signed_decimal r.1))
@@ -39,5 +39,5 @@ lines_some (l ∷ ls) =
       length-append (line_text l) (flat_map line_text ls),
     )
 
-pub runs_below_bytes : (s : Shape) → sum_by (λ l. length l.1) s.lines ≤ length (printed s)
+pub runs_below_bytes : (s : Shape) → sum_by (λ l. length l.1) s.lines ≤ length (shape_text s)
 runs_below_bytes s = omega (arith, lines_some s.lines, length-append (lines_text s.lines) (rows_text s.names s.rows))

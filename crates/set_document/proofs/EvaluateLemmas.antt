@@ -1,14 +1,14 @@
-use Rattle.std.proofs.Common.{◌≡◌, List, [], ◌∷◌, ◌++◌, refl, sym, ◌∙◌}
-use Rattle.std.specs.Prelude.{ℕ, ℤ, ◌≤ℤ◌, Bool, None, ◌+◌, Option, Result, Ok, Err, OnOk}
+use Rattle.std.proofs.Common.{◌≡◌, List, [], ◌∷◌, ◌++◌, map, refl, sym, ap, ◌∙◌}
+use Rattle.std.specs.Prelude.{ℕ, ℤ, ◌≤ℤ◌, Bool, None, ◌+◌}
 use Rattle.std.proofs.lemmas.List.{map-append}
+use Rattle.text_lines.proofs.FaultLemmas.{fault_behind}
 use Rattle.set_document.specs.Numbers.{least, greatest}
-use Rattle.set_document.specs.Steps.{IsStep, IsStepAfter}
-use Rattle.set_document.specs.Text.{Kind, Form, Comment, Named, Bad, form, words}
+use Rattle.text_lines.specs.Lines.{words}
+use Rattle.set_document.specs.Text.{Form, Comment, Named, Bad, form}
 use Rattle.set_document.specs.Truth.{Lines, at, truth, after_form, after_lines}
 use Rattle.set_document.specs.Faults.{fault_from, fault_in_form, names_after}
 use Rattle.set_document.specs.Lines.{Agree, lines_of}
 use Rattle.number_line.specs.Ranges.{holds}
-use Rattle.set_document.specs.declared.named_lines.Line.{Line}
 
 -- the truth of a line at x reads no more of the lines before than what they give at x
 pub truth_at : (as' bs : Lines) (pieces : List (List ℕ)) (x : ℤ) → at as' x ≡ at bs x → truth as' pieces x ≡ truth bs pieces x
@@ -36,14 +36,10 @@ after_lines_agrees as' bs (l ∷ ls) h = after_lines_agrees (after_form as' (for
 pub agree_refl : (as' : Lines) → Agree as' as'
 agree_refl as' = λ x p q. refl
 
-pub lines_of_push : (done : List Line) (l : Line) → lines_of (done ++ l ∷ []) ≡ lines_of done ++ (l.name.bytes.now, holds l.set) ∷ []
-lines_of_push done l = map-append (λ l. (l.name.bytes.now, holds l.set)) done (l ∷ [])
-
--- a step whatever the earlier lines give is one after these lines
-pub step_after : {T E : Type 0} (lines : Lines) (word : Option Kind) (before after : List (List (ℤ × ℤ))) (r : Result T E) → OnOk r (IsStep word before after) → OnOk r (IsStepAfter lines word before after)
-step_after lines word before after (Ok t) h = λ x p q. h (at lines x) x p q
-step_after lines word before after (Err e) h = h
+pub lines_of_push : (lines : List (List ℕ × List (ℤ × ℤ))) (l : List ℕ × List (ℤ × ℤ)) → lines_of (lines ++ l ∷ []) ≡ lines_of lines ++ (l.0, holds l.1) ∷ []
+lines_of_push lines l = map-append (λ (l : List ℕ × List (ℤ × ℤ)). (l.0, holds l.1)) lines (l ∷ [])
 
 pub fault_turn : (known names : List (List ℕ)) (line : ℕ) (l : List ℕ) (ls : List (List ℕ)) → fault_in_form known line (form l) ≡ None → names ≡ names_after known (form l)
     → fault_from names (line + 1) ls ≡ fault_from known line (l ∷ ls)
-fault_turn known names line l ls e f = rw (f, fault_from, e)
+fault_turn known names line l ls e f =
+    ap (λ ns. fault_from ns (line + 1) ls) f ∙ sym (fault_behind fault_in_form names_after known line (form l) (map form ls) e)

@@ -10,9 +10,10 @@ use Rattle.number_line.proofs.SegmentLemmas.{segments_cut, cut_is_segments}
 use Rattle.number_line.proofs.CoverLemmas.{fewest}
 use Rattle.set_document.specs.Laws.{segment_of, RowsAreFewest}
 use Rattle.set_document.specs.Numbers.{least, greatest, above_least}
-use Rattle.set_document.specs.Table.{names, held, rows, row_of}
-use Rattle.set_document.specs.Text.{lines, form, Comment}
-use Rattle.set_document.specs.Truth.{Lines, at, after_form, after_lines, named}
+use Rattle.set_document.specs.Table.{names, names_held, rows, row_of}
+use Rattle.text_lines.specs.Lines.{lines}
+use Rattle.set_document.specs.Text.{form, Comment}
+use Rattle.set_document.specs.Truth.{Lines, at, after_form, after_lines, named_lines}
 use Rattle.set_document.proofs.NumberLemmas.{width}
 use Rattle.set_document.proofs.TableLemmas.{list_itself}
 
@@ -44,11 +45,11 @@ one_segment h none = sym (cut_is_segments (pointwise nat_eq) h greatest least ab
     one = (refl, omega (arith, ints, width), omega (arith, ints), sym (none least), (λ x p q. rw (none x, none (x +ℤ pos 1)) refl), (λ p. absurd (omega (arith, ints))), refl)
 
 pub rows_are_fewest : RowsAreFewest
-unfolding names rows named
+unfolding names rows named_lines
 rows_are_fewest text = record {
   comments = λ all.
       let nothing : after_lines [] (lines text) ≡ [] = only_comments [] (lines text) all in
-      (rw nothing refl, ap (map row_of) (one_segment (λ x. held (at (after_lines [] (lines text)) x)) (λ x. rw nothing refl)));
-  cut = cut_of (λ x. held (at (after_lines [] (lines text)) x));
-  fewest = fewest_of (λ x. held (at (after_lines [] (lines text)) x));
+      (rw nothing refl, ap (map row_of) (one_segment (λ x. names_held (at (after_lines [] (lines text)) x)) (λ x. rw nothing refl)));
+  cut = cut_of (λ x. names_held (at (after_lines [] (lines text)) x));
+  fewest = fewest_of (λ x. names_held (at (after_lines [] (lines text)) x));
 }

@@ -18,12 +18,12 @@ use Rattle.cut_points.specs.Cuts.{IsAscending, cuts, cuts_alone}
 use Rattle.cut_points.proofs.CutLemmas.{changes, cuts_ascend, ascending_from, has_cons, eq_same, eq_more}
 use Rattle.cut_points.proofs.RunLemmas.{cuts_of_runs, has_within}
 use Rattle.cut_points.proofs.BoundLemmas.{no_longer, two_cuts, length_alone}
-use Rattle.set_document.specs.Answer.{listed}
+use Rattle.set_document.specs.Answer.{line_lists}
 use Rattle.set_document.specs.Laws.{RunCutsAreLiteral, FewRanges, FewRows}
 use Rattle.set_document.specs.Literals.{literals, literal_cuts}
 use Rattle.set_document.specs.Numbers.{least, greatest, above_least, i64_runs}
-use Rattle.set_document.specs.Table.{held, row_of, rows}
-use Rattle.set_document.specs.Truth.{Lines, at, named}
+use Rattle.set_document.specs.Table.{names_held, row_of, rows}
+use Rattle.set_document.specs.Truth.{Lines, at, named_lines}
 use Rattle.set_document.proofs.NumberLemmas.{width}
 use Rattle.set_document.proofs.LineLemmas.{line_value}
 use Rattle.set_document.proofs.LiteralLemmas.{changes_at_literals}
@@ -74,10 +74,10 @@ each_line P cs give (l ∷ part) h =
     (give l.1 (λ x q e. line_value (l ∷ part) 0 l x (x -ℤ pos 1) refl (h x q e)), each_line P cs give part (λ x q e. rest_on l part x (x -ℤ pos 1) (h x q e)))
 
 pub run_cuts_are_literal : RunCutsAreLiteral
-unfolding listed
+unfolding line_lists
 run_cuts_are_literal text =
     each_line (λ rs. (x : ℤ) → has int_cmp (cuts greatest rs) x ≡ true → (x ≡ least) ⊎ (has int_cmp (literal_cuts text) x ≡ true)) (literal_cuts text)
-    (cut_is_among (literal_cuts text)) (named text) (λ x q e. changes_at_literals text x q e)
+    (cut_is_among (literal_cuts text)) (named_lines text) (λ x q e. changes_at_literals text x q e)
 
 -- ---- how many there are
 
@@ -107,10 +107,10 @@ counted rs f h =
     omega (arith, a, b, d)
 
 pub few_ranges : FewRanges
-unfolding listed
+unfolding line_lists
 few_ranges text =
     each_line (λ rs. length rs ≤ length (literals text) + 1) (literal_cuts text)
-    (λ f stays. counted (literals text) f (cut_is_among (literal_cuts text) f stays)) (named text) (λ x q e. changes_at_literals text x q e)
+    (λ f stays. counted (literals text) f (cut_is_among (literal_cuts text) f stays)) (named_lines text) (λ x q e. changes_at_literals text x q e)
 
 -- ---- rows
 
@@ -144,7 +144,7 @@ decides : (a b : List ℕ) → Decides (pointwise nat_eq a b) (a ≡ b)
 decides a b = slice_eq-Decides unsigned_Decides a b (pointwise nat_eq a b) refl
 
 row_is_literal : (text : List ℕ) (x : ℤ) → x ≤ℤ greatest
-    → (x ≡ least) ⊎ (pointwise nat_eq (held (at (named text) (x -ℤ pos 1))) (held (at (named text) x)) ≡ false)
+    → (x ≡ least) ⊎ (pointwise nat_eq (names_held (at (named_lines text) (x -ℤ pos 1))) (names_held (at (named_lines text) x)) ≡ false)
     → (x ≡ least) ⊎ (has int_cmp (literal_cuts text) x ≡ true)
 row_is_literal text x q (inl e) = inl e
 row_is_literal text x q (inr d) = by (has int_cmp (literal_cuts text) x) refl
@@ -152,14 +152,14 @@ row_is_literal text x q (inr d) = by (has int_cmp (literal_cuts text) x) refl
     by : (b : Bool) → has int_cmp (literal_cuts text) x ≡ b → (x ≡ least) ⊎ (has int_cmp (literal_cuts text) x ≡ true)
     by true e = inr e
     by false e =
-        let same : held (at (named text) x) ≡ held (at (named text) (x -ℤ pos 1)) = ap held (changes_at_literals text x q e) in
-        let t : pointwise nat_eq (held (at (named text) (x -ℤ pos 1))) (held (at (named text) x)) ≡ true = (decides (held (at (named text) (x -ℤ pos 1))) (held (at (named text) x))).1 (sym same) in
+        let same : names_held (at (named_lines text) x) ≡ names_held (at (named_lines text) (x -ℤ pos 1)) = ap names_held (changes_at_literals text x q e) in
+        let t : pointwise nat_eq (names_held (at (named_lines text) (x -ℤ pos 1))) (names_held (at (named_lines text) x)) ≡ true = (decides (names_held (at (named_lines text) (x -ℤ pos 1))) (names_held (at (named_lines text) x))).1 (sym same) in
         absurd cc
 
 pub few_rows : FewRows
 unfolding rows
 few_rows text =
-    let f : ℤ → List ℕ = λ x. held (at (named text) x) in
+    let f : ℤ → List ℕ = λ x. names_held (at (named_lines text) x) in
     let list = segments (pointwise nat_eq) f least above_least in
     let c = segments_cut (pointwise nat_eq) f greatest least above_least width in
     let up = firsts_ascend (pointwise nat_eq) f greatest least list c in

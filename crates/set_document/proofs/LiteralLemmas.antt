@@ -8,8 +8,9 @@ use Rattle.ordered_lists.specs.Lists.{has}
 use Rattle.cut_points.specs.Cuts.{cuts, cuts_alone}
 use Rattle.cut_points.proofs.CutLemmas.{has_cons, eq_same, lt_yes, lt_no, le_yes, le_no}
 use Rattle.set_document.specs.Numbers.{greatest}
-use Rattle.set_document.specs.Text.{lines, words, form, kind, Form, Kind, Number, Span, Empty, Full, Name, Not, Or, And, Minus, Xor, Comment, Named, Bad}
-use Rattle.set_document.specs.Truth.{Lines, at, after_word, after_words, truth, after_form, after_lines, named}
+use Rattle.text_lines.specs.Lines.{lines, words}
+use Rattle.set_document.specs.Text.{form, kind, Form, Kind, Number, Span, Empty, Full, Name, Not, Or, And, Minus, Xor, Comment, Named, Bad}
+use Rattle.set_document.specs.Truth.{Lines, at, after_word, after_words, truth, after_form, after_lines, named_lines}
 use Rattle.truth_blocks.specs.Stack.{last_value}
 use Rattle.set_document.specs.Literals.{literal, literals_of_words, literals_of_form, literals_of, literal_cuts}
 
@@ -114,6 +115,6 @@ lines_on ls (p ∷ pieces) x q h e =
     lines_on (after_form ls (form p)) pieces x q both.1 (form_on ls (form p) x q both.0 e)
 
 pub changes_at_literals : (text : List ℕ) (x : ℤ) → x ≤ℤ greatest → has int_cmp (literal_cuts text) x ≡ false
-    → at (named text) x ≡ at (named text) (x -ℤ pos 1)
-unfolding named
+    → at (named_lines text) x ≡ at (named_lines text) (x -ℤ pos 1)
+unfolding named_lines
 changes_at_literals text x q h = lines_on [] (lines text) x q h refl

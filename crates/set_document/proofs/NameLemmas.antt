@@ -9,17 +9,20 @@ use Rattle.std.specs.Cmp.Lexicographic.{lists_ties, nat_list_cmp_total}
 use Rattle.std.specs.Ordering.{match_ordering, nat_cmp, is_eq, ordering_reverse}
 use Rattle.std.specs.List.Sorted.{IsStrictlySortedBy}
 use Rattle.std.proofs.lemmas.List.{map-append, length-map}
+use Rattle.std.proofs.lemmas.List.Elements.{All-push}
 use Rattle.std.proofs.lemmas.List.Sums.{fold-append}
 use Rattle.std.proofs.lemmas.Slice.Eq.{bytes_eq-Decides}
-use Rattle.number_line.specs.Ranges.{holds}
+use Rattle.number_line.specs.Ranges.{holds, IsCanonical}
 use Rattle.ordered_lists.specs.Lists.{to_key, find, put, add}
 use Rattle.ordered_lists.proofs.PlaceLemmas.{greater_less, equal_back, below_all, level_all}
 use Rattle.ordered_lists.proofs.WalkLemmas.{ascends-add}
 use Rattle.ordered_lists.proofs.SearchLemmas.{get_is}
 use Rattle.set_document.specs.Truth.{at, latest}
 use Rattle.set_document.specs.Words.{letters}
-use Rattle.set_document.specs.Lines.{lines_of, names_of}
-use Rattle.set_document.specs.Names.{last_place, bytes_cmp, name_cmp, distinct, IsIndex}
+use Rattle.set_document.specs.Indexed.{AreIndexed}
+use Rattle.set_document.specs.Lines.{line_lists_of, lines_of, names_of, AllCanonical}
+use Rattle.set_document.specs.Numbers.{least, greatest}
+use Rattle.set_document.specs.Names.{last_place, bytes_cmp, name_cmp, distinct_names, IsIndex}
 use Rattle.set_document.specs.declared.named_lines.Line.{Line}
 use Rattle.set_document.specs.declared.word.Name.{Name}
 
@@ -53,23 +56,23 @@ place_in_range (n ∷ names) name i e = go (last_place names name) (bytes_eq n n
     go None false f h = cc
 
 -- what the line at a place gives at x, or what was found before where there is no place
-abbrev value_from : ℤ → List Line → Option Bool → Option ℕ → Option Bool
-value_from x lines before (Some i) = option_map (λ line. holds line.set x) (slice_get lines i)
+abbrev value_from : ℤ → List (List ℕ × List (ℤ × ℤ)) → Option Bool → Option ℕ → Option Bool
+value_from x lines before (Some i) = option_map (λ (line : List ℕ × List (ℤ × ℤ)). holds line.1 x) (slice_get lines i)
 value_from x lines before None = before
 
-found_from : (x : ℤ) (lines : List Line) (name : List ℕ) (before : Option Bool)
+found_from : (x : ℤ) (lines : List (List ℕ × List (ℤ × ℤ))) (name : List ℕ) (before : Option Bool)
     → fold (λ found line. if bytes_eq line.0 name then Some line.1 else found) before (at (lines_of lines) x) ≡ value_from x lines before (last_place (names_of lines) name)
 found_from x [] name before = refl
-found_from x (l ∷ lines) name before = found_from x lines name _ ∙ go (last_place (names_of lines) name) (bytes_eq (letters l.name) name)
+found_from x (l ∷ lines) name before = found_from x lines name _ ∙ go (last_place (names_of lines) name) (bytes_eq l.0 name)
   where
-    go : (r : Option ℕ) (b : Bool) → value_from x lines (if b then Some (holds l.set x) else before) r
+    go : (r : Option ℕ) (b : Bool) → value_from x lines (if b then Some (holds l.1 x) else before) r
         ≡ value_from x (l ∷ lines) before (elim r [ Some i ↦ Some (suc i) | None ↦ if b then Some 0 else None ])
     go (Some i) b = refl
     go None true = refl
     go None false = refl
 
 -- the latest line of a name gives what the line at its last place gives
-pub latest_is_placed : (x : ℤ) (lines : List Line) (name : List ℕ) → latest (at (lines_of lines) x) name ≡ value_from x lines None (last_place (names_of lines) name)
+pub latest_is_placed : (x : ℤ) (lines : List (List ℕ × List (ℤ × ℤ))) (name : List ℕ) → latest (at (lines_of lines) x) name ≡ value_from x lines None (last_place (names_of lines) name)
 latest_is_placed x lines name = found_from x lines name None
 
 -- names that compare as equal have the same bytes
@@ -191,14 +194,14 @@ put_in_order k v last next h (p ∷ pairs) (d ∷ ds) sorted e =
         rw greater (λ i. (letters k, here i) ∷ stay i)
 
 -- the distinct names of one more
-distinct_behind : (names : List (List ℕ)) (n : List ℕ) → distinct (names ++ n ∷ []) ≡ add bytes_cmp (distinct names) n
+distinct_behind : (names : List (List ℕ)) (n : List ℕ) → distinct_names (names ++ n ∷ []) ≡ add bytes_cmp (distinct_names names) n
 distinct_behind names n = fold-append (add bytes_cmp) [] names (n ∷ [])
 
 ascends_from : (ds names : List (List ℕ)) → IsStrictlySortedBy bytes_cmp ds → IsStrictlySortedBy bytes_cmp (fold (add bytes_cmp) ds names)
 ascends_from ds [] h = h
 ascends_from ds (n ∷ names) h = ascends_from (add bytes_cmp ds n) names (ascends-add nat_list_cmp_total ds n h)
 
-pub distinct_ascends : (names : List (List ℕ)) → IsStrictlySortedBy bytes_cmp (distinct names)
+pub distinct_ascends : (names : List (List ℕ)) → IsStrictlySortedBy bytes_cmp (distinct_names names)
 unfolding IsStrictlySortedBy
 distinct_ascends names = ascends_from [] names tt
 
@@ -209,13 +212,13 @@ indexed_behind names pairs k h = record {
       found_once_put pairs k (length names) n ∙ (ap (λ r. if bytes_eq (letters k) (letters n) then Some (length names) else r) (h.finds n)
       ∙ sym (last_place_behind names (letters k) (letters n)));
   lists =
-      put_in_order k (length names) (last_place names) (last_place (names ++ letters k ∷ [])) (last_place_behind names (letters k)) pairs (distinct names) (distinct_ascends names) h.lists
+      put_in_order k (length names) (last_place names) (last_place (names ++ letters k ∷ [])) (last_place_behind names (letters k)) pairs (distinct_names names) (distinct_ascends names) h.lists
       ∙ ap (map (with_place (last_place (names ++ letters k ∷ [])))) (sym (distinct_behind names (letters k)));
 }
 
 -- ---- what a look-up finds
 
-module _ (lines : List Line) (name : List ℕ) where
+module _ (lines : List (List ℕ × List (ℤ × ℤ))) (name : List ℕ) where
   -- no place, and so no line
   pub nothing_latest : (x : ℤ) → last_place (names_of lines) name ≡ None → None ≡ latest (at (lines_of lines) x) name
   nothing_latest x e = sym (latest_is_placed x lines name ∙ ap (value_from x lines None) e)
@@ -224,24 +227,45 @@ module _ (lines : List Line) (name : List ℕ) where
   nothing_known e = sym (known_where_placed (names_of lines) name ∙ ap (is_some {T = ℕ}) e)
 
   -- a place, and the line there
-  pub something_latest : (x : ℤ) (i : ℕ) (line : Line) → last_place (names_of lines) name ≡ Some i → line ≡ get_or lines i line
-      → Some (holds line.set x) ≡ latest (at (lines_of lines) x) name
+  pub something_latest : (x : ℤ) (i : ℕ) (line : List ℕ × List (ℤ × ℤ)) → last_place (names_of lines) name ≡ Some i → line ≡ get_or lines i line
+      → Some (holds line.1 x) ≡ latest (at (lines_of lines) x) name
   something_latest x i line e f =
       let within = place_in_range (names_of lines) name i e in
-      let there : slice_get lines i ≡ Some line = get_is lines i line (omega (arith, within, length-map lines (λ (l : Line). letters l.name))) f in
-      sym (latest_is_placed x lines name ∙ (ap (value_from x lines None) e ∙ ap (option_map (λ l. holds l.set x)) there))
+      let there : slice_get lines i ≡ Some line = get_is lines i line (omega (arith, within, length-map lines (λ (l : List ℕ × List (ℤ × ℤ)). l.0))) f in
+      sym (latest_is_placed x lines name ∙ (ap (value_from x lines None) e ∙ ap (option_map (λ (l : List ℕ × List (ℤ × ℤ)). holds l.1 x)) there))
 
   pub something_known : (i : ℕ) → last_place (names_of lines) name ≡ Some i → true ≡ list_any (λ n. bytes_eq n name) (names_of lines)
   something_known i e = sym (known_where_placed (names_of lines) name ∙ ap (is_some {T = ℕ}) e)
 
   -- there is a line at each place
   pub line_at_place : (i : ℕ) → last_place (names_of lines) name ≡ Some i → length lines ≤ i → ⊥
-  line_at_place i e h = let within = place_in_range (names_of lines) name i e in omega (arith, within, length-map lines (λ (l : Line). letters l.name))
+  line_at_place i e h = let within = place_in_range (names_of lines) name i e in omega (arith, within, length-map lines (λ (l : List ℕ × List (ℤ × ℤ)). l.0))
 
--- the index once a line stands behind the others
-pub pushed_indexed : (lines lines' : List Line) (pairs pairs' : List (Name × ℕ)) (line : Line) (place : ℕ) → lines' ≡ lines ++ line ∷ [] → place ≡ length lines
-    → pairs' ≡ put name_cmp pairs line.name place → IsIndex (names_of lines) pairs → IsIndex (names_of lines') pairs'
-pushed_indexed lines lines' pairs pairs' line place e f g h =
-    let grown : names_of (lines ++ line ∷ []) ≡ names_of lines ++ letters line.name ∷ [] = map-append (λ l. letters l.name) lines (line ∷ []) in
-    let indexed = indexed_behind (names_of lines) pairs line.name h in
-    rw (e, grown, g, f, ← length-map lines (λ (l : Line). letters l.name)) indexed
+-- the index and the lines once a line stands behind the others
+pub lines_pushed : (lines : List Line) (line : Line) → line_lists_of (lines ++ line ∷ []) ≡ line_lists_of lines ++ (letters line.name, line.set) ∷ []
+lines_pushed lines line = map-append (λ (l : Line). (letters l.name, l.set)) lines (line ∷ [])
+
+all_pushed : (lines : List (List ℕ × List (ℤ × ℤ))) (l : List ℕ × List (ℤ × ℤ)) → AllCanonical lines → IsCanonical least greatest l.1
+    → AllCanonical (lines ++ l ∷ [])
+all_pushed lines l all one = All-push (λ (k : List ℕ × List (ℤ × ℤ)). IsCanonical least greatest k.1) lines l all one
+
+pub pushed_indexed : (lines : List Line) (pairs : List (Name × ℕ)) (line : Line) (place : ℕ) → place ≡ length lines
+    → IsCanonical least greatest line.set → AreIndexed (line_lists_of lines) pairs
+    → AreIndexed (line_lists_of (lines ++ line ∷ [])) (put name_cmp pairs line.name place)
+pushed_indexed lines pairs line place e c h =
+    let shown = line_lists_of lines in
+    let grown : names_of (shown ++ (letters line.name, line.set) ∷ []) ≡ names_of shown ++ letters line.name ∷ [] =
+    map-append (λ (l : List ℕ × List (ℤ × ℤ)). l.0) shown ((letters line.name, line.set) ∷ []) in
+    let as_many : length shown ≡ length lines = length-map {B = List ℕ × List (ℤ × ℤ)} lines (λ (l : Line). (letters l.name, l.set)) in
+    let many : place ≡ length (names_of shown) = omega (arith, e, as_many, length-map shown (λ (l : List ℕ × List (ℤ × ℤ)). l.0)) in
+    rw (lines_pushed lines line) (record {
+      indexed = rw (grown, many) (indexed_behind (names_of shown) pairs line.name h.indexed);
+      canonical = all_pushed shown (letters line.name, line.set) h.canonical c;
+    })
+
+-- the line at a place, as its name and its ranges
+pub line_at : (lines : List Line) (i : ℕ) (line : Line) → line ≡ get_or lines i line
+    → ◌≡◌ {A = List ℕ × List (ℤ × ℤ)} (letters line.name, line.set) (get_or (line_lists_of lines) i (letters line.name, line.set))
+line_at [] i line e = refl
+line_at (l ∷ lines) zero line e = ap (λ (k : Line). (letters k.name, k.set)) e
+line_at (l ∷ lines) (suc i) line e = line_at lines i line e

@@ -13,18 +13,20 @@ use Rattle.number_line.specs.Segments.{Segment, put_before, segments, IsCut}
 use Rattle.number_line.proofs.SegmentLemmas.{segments_cut}
 use Rattle.ordered_lists.specs.Lists.{add}
 use Rattle.ordered_lists.proofs.PlaceLemmas.{all_map}
-use Rattle.set_document.specs.Answer.{Shape, shape, listed, printed, answer, line_text, row_text, list_text}
+use Rattle.text_lines.proofs.FaultLemmas.{fault_behind}
+use Rattle.set_document.specs.Answer.{Shape, shape, line_lists, shape_text, answer, line_text, row_text, list_text}
 use Rattle.set_document.specs.Faults.{fault_in_form, fault_in_words, fault_from, names_after, first_fault}
 use Rattle.set_document.specs.Laws.{AnswersReadBack}
-use Rattle.set_document.specs.Names.{bytes_cmp, distinct}
+use Rattle.set_document.specs.Names.{bytes_cmp, distinct_names}
 use Rattle.set_document.specs.Numbers.{least, greatest, above_least, i64_runs}
-use Rattle.set_document.specs.Table.{names, held, rows, row_of}
-use Rattle.set_document.specs.Text.{lines, form, form_after, form_of_named, is_name, words, Form, Comment, Named, Bad}
-use Rattle.set_document.specs.Truth.{Lines, at, after_form, after_lines, truth, named}
+use Rattle.set_document.specs.Table.{names, names_held, rows, row_of}
+use Rattle.text_lines.specs.Lines.{lines, words}
+use Rattle.set_document.specs.Text.{form, form_after, form_of_named, is_name, Form, Comment, Named, Bad}
+use Rattle.set_document.specs.Truth.{Lines, at, after_form, after_lines, truth, named_lines}
 use Rattle.set_document.proofs.FewestLemmas.{only_comments}
 use Rattle.set_document.proofs.NumberLemmas.{runs_are_the_ranges, width}
 use Rattle.set_document.proofs.DecimalLemmas.{fits}
-use Rattle.set_document.proofs.PieceLemmas.{lines_pieces}
+use Rattle.text_lines.proofs.PieceLemmas.{lines_pieces}
 use Rattle.set_document.proofs.PrintedLemmas.{IsShown, IsListed, line_body, line_is, line_bytes, line_form, list_split, list_faultless, list_truth, row_body, row_is, row_form, row_bytes}
 
 -- ---- what is printed is a shape whose names are names, and whose numbers are numbers of 64 bits
@@ -68,8 +70,8 @@ after_lines_named done [] a = a
 after_lines_named done (p ∷ ps) a =
     after_lines_named (after_form done (form p)) ps (after_form_named done p (form p) refl a)
 
-named_are_named : (text : List ℕ) → AllByRecursion IsNamed (named text)
-unfolding named
+named_are_named : (text : List ℕ) → AllByRecursion IsNamed (named_lines text)
+unfolding named_lines
 named_are_named text = after_lines_named [] (lines text) tt
 
 canonical_shown : (lo : ℤ) (runs : List (ℤ × ℤ)) → least ≤ℤ lo → IsCanonical lo greatest runs
@@ -118,21 +120,21 @@ rows_fit f lo (s ∷ rest) l c =
     )
 
 shape_printable : (text : List ℕ) → IsPrintable (shape text)
-unfolding shape listed names rows
+unfolding shape line_lists names rows
 shape_printable text = record {
-  lines = listed_of (named text) (named_are_named text);
+  lines = listed_of (named_lines text) (named_are_named text);
   names =
-      all_adds (λ n. is_name n ≡ true) [] (map (λ l. l.0) (named text)) tt
-      (names_of_lines (named text) (named_are_named text));
+      all_adds (λ n. is_name n ≡ true) [] (map (λ l. l.0) (named_lines text)) tt
+      (names_of_lines (named_lines text) (named_are_named text));
   rows =
-      rows_fit (λ x. held (at (named text) x)) least
-      (segments (pointwise nat_eq) (λ x. held (at (named text) x)) least above_least) (omega (arith, ints))
-      (segments_cut (pointwise nat_eq) (λ x. held (at (named text) x)) greatest least above_least width);
+      rows_fit (λ x. names_held (at (named_lines text) x)) least
+      (segments (pointwise nat_eq) (λ x. names_held (at (named_lines text) x)) least above_least) (omega (arith, ints))
+      (segments_cut (pointwise nat_eq) (λ x. names_held (at (named_lines text) x)) greatest least above_least width);
 }
 
 -- ---- what is printed, read as a text
 
-printed_lines : (s : Shape) → IsPrintable s → lines (printed s) ≡ map line_text s.lines ++ map (row_text s.names) s.rows
+printed_lines : (s : Shape) → IsPrintable s → lines (shape_text s) ≡ map line_text s.lines ++ map (row_text s.names) s.rows
 printed_lines s p =
     let one = lines_pieces line_text line_body s.lines (flat_map (row_text s.names) s.rows) line_is
     (all_map IsListed _ line_bytes s.lines p.lines) in
@@ -150,7 +152,7 @@ rows_are_comments names (row ∷ rows) = (row_form names row, rows_are_comments 
 pub line_step : (known : List (List ℕ)) (line : ℕ) (l : List ℕ) (ls : List (List ℕ))
     → fault_in_form known line (form l) ≡ None
     → fault_from known line (l ∷ ls) ≡ fault_from (names_after known (form l)) (line + 1) ls
-line_step known line l ls e = rw (e, fault_from) refl
+line_step known line l ls e = fault_behind fault_in_form names_after known line (form l) (map form ls) e
 
 comments_faultless : (known : List (List ℕ)) (line : ℕ) (ls : List (List ℕ))
     → AllByRecursion (λ line. form line ≡ Comment) ls → fault_from known line ls ≡ None
@@ -169,7 +171,7 @@ lists_faultless known line (l ∷ ls) rest a b =
     (ap (fault_in_words known line 1 0) (list_split l.1 a.0.1) ∙ list_faultless known line l.1 a.0.1))
     ∙ lists_faultless (names_after known (form (line_text l))) (line + 1) ls rest a.1 b
 
-printed_faultless : (s : Shape) → IsPrintable s → first_fault (printed s) ≡ None
+printed_faultless : (s : Shape) → IsPrintable s → first_fault (shape_text s) ≡ None
 unfolding first_fault
 printed_faultless s p =
     ap (fault_from [] 1) (printed_lines s p) ∙ lists_faultless [] 1 s.lines (map (row_text s.names) s.rows) p.lines
@@ -194,8 +196,8 @@ lists_named done (l ∷ ls) rest a b =
     ap (λ d. after_lines d (map line_text ls ++ rest)) (line_named done l a.0)
     ∙ (lists_named (done ++ read_back l ∷ []) ls rest a.1 b ∙ append_assoc done (read_back l ∷ []) (map read_back ls))
 
-printed_named : (s : Shape) → IsPrintable s → named (printed s) ≡ map read_back s.lines
-unfolding named
+printed_named : (s : Shape) → IsPrintable s → named_lines (shape_text s) ≡ map read_back s.lines
+unfolding named_lines
 printed_named s p =
     ap (after_lines []) (printed_lines s p) ∙ lists_named [] s.lines (map (row_text s.names) s.rows) p.lines
     (rows_are_comments s.names s.rows)
@@ -238,33 +240,33 @@ segments_agree same f g hi lo (suc n) e h =
     λ i. put_before same lo (here i) (rest i)
 
 rows_again : (ls : Lines)
-    → segments (pointwise nat_eq) (λ x. held (at (read_again ls) x)) least above_least
-    ≡ segments (pointwise nat_eq) (λ x. held (at ls x)) least above_least
+    → segments (pointwise nat_eq) (λ x. names_held (at (read_again ls) x)) least above_least
+    ≡ segments (pointwise nat_eq) (λ x. names_held (at ls x)) least above_least
 rows_again ls =
-    segments_agree (pointwise nat_eq) (λ x. held (at (read_again ls) x))
-    (λ x. held (at ls x)) greatest least above_least width (λ x p q. ap held (at_again ls x p q))
+    segments_agree (pointwise nat_eq) (λ x. names_held (at (read_again ls) x))
+    (λ x. names_held (at ls x)) greatest least above_least width (λ x p q. ap names_held (at_again ls x p q))
 
-shape_from_lines : (text other : List ℕ) → named other ≡ read_again (named text) → ◌≡◌ {A = Shape} (shape other) (shape text)
-unfolding shape listed names rows
+shape_from_lines : (text other : List ℕ) → named_lines other ≡ read_again (named_lines text) → ◌≡◌ {A = Shape} (shape other) (shape text)
+unfolding shape line_lists names rows
 shape_from_lines text other e =
-    let l : map as_listed (named other) ≡ map as_listed (named text) =
-    ap (map as_listed) e ∙ listed_again (named text) in
-    let n : distinct (map (λ l. l.0) (named other)) ≡ distinct (map (λ l. l.0) (named text)) = ap distinct
-    (ap (map (λ l. l.0)) e ∙ names_again (named text)) in
-    let r : map row_of (segments (pointwise nat_eq) (λ x. held (at (named other) x)) least above_least) ≡ map row_of
-    (segments (pointwise nat_eq) (λ x. held (at (named text) x)) least above_least) =
-    ap (λ ls. map row_of (segments (pointwise nat_eq) (λ x. held (at ls x)) least above_least)) e ∙ ap (map row_of)
-    (rows_again (named text)) in
+    let l : map as_listed (named_lines other) ≡ map as_listed (named_lines text) =
+    ap (map as_listed) e ∙ listed_again (named_lines text) in
+    let n : distinct_names (map (λ l. l.0) (named_lines other)) ≡ distinct_names (map (λ l. l.0) (named_lines text)) = ap distinct_names
+    (ap (map (λ l. l.0)) e ∙ names_again (named_lines text)) in
+    let r : map row_of (segments (pointwise nat_eq) (λ x. names_held (at (named_lines other) x)) least above_least) ≡ map row_of
+    (segments (pointwise nat_eq) (λ x. names_held (at (named_lines text) x)) least above_least) =
+    ap (λ ls. map row_of (segments (pointwise nat_eq) (λ x. names_held (at ls x)) least above_least)) e ∙ ap (map row_of)
+    (rows_again (named_lines text)) in
     λ i. record { lines = l i; names = n i; rows = r i }
 
-answer_named : (text : List ℕ) → named (answer text) ≡ read_again (named text)
-unfolding answer shape listed
+answer_named : (text : List ℕ) → named_lines (answer text) ≡ read_again (named_lines text)
+unfolding answer shape line_lists
 answer_named text = printed_named (shape text) (shape_printable text)
 
 pub answers_read_back : AnswersReadBack
 unfolding answer
 answers_read_back text = (
   printed_faultless (shape text) (shape_printable text),
-  ap printed
+  ap shape_text
       (shape_from_lines text (answer text) (answer_named text)),
 )

@@ -8,9 +8,9 @@ use Rattle.number_line.specs.Segments.{same_bool, runs}
 use Rattle.std.specs.List.{AllByRecursion}
 use Rattle.cut_points.specs.Cuts.{from_cuts}
 use Rattle.set_document.specs.Numbers.{least, greatest, i64_runs}
-use Rattle.set_document.specs.Truth.{Lines, at, named}
+use Rattle.set_document.specs.Truth.{Lines, at, named_lines}
 use Rattle.set_document.specs.Literals.{literal_cuts}
-use Rattle.set_document.specs.Visits.{noted, values_at, after_visits, IsConstantBetween, IsWalk, walk_lines, IsCompiled}
+use Rattle.set_document.specs.Visits.{numbers_noted, values_at, after_visits, IsConstantBetween, IsWalk, walk_lines, IsCompiled}
 use Rattle.truth_blocks.specs.Notes.{note, note_all, no_notes, walk_places}
 use Rattle.truth_blocks.specs.Blocks.{values_of}
 use Rattle.truth_blocks.specs.declared.step.Step.{Step}
@@ -27,16 +27,16 @@ use Rattle.std.proofs.Common.{append_assoc}
 use Rattle.set_document.proofs.VisitLemmas.{noted_are_runs, noted_ascends}
 
 -- what the visits note is `noted`
-after_from : (f : ℤ → Bool) (before : Bool) (ns visited : List ℤ) → (fold (λ s x. note s (f x) x) (before, ns) visited).1 ≡ ns ++ noted before f visited
+after_from : (f : ℤ → Bool) (before : Bool) (ns visited : List ℤ) → (fold (λ s x. note s (f x) x) (before, ns) visited).1 ≡ ns ++ numbers_noted before f visited
 after_from f before ns [] = sym (append-nil ns)
 after_from f before ns (v ∷ vs) = at (same_bool before (f v)) (after_from f (f v) ns vs) (after_from f (f v) (ns ++ v ∷ []) vs)
   where
-    at : (b : Bool) → (fold (λ s x. note s (f x) x) (f v, ns) vs).1 ≡ ns ++ noted (f v) f vs → (fold (λ s x. note s (f x) x) (f v, ns ++ v ∷ []) vs).1 ≡ (ns ++ v ∷ []) ++ noted (f v) f vs
-        → (fold (λ s x. note s (f x) x) (f v, (if b then ns else ns ++ v ∷ [])) vs).1 ≡ ns ++ (if b then noted (f v) f vs else v ∷ noted (f v) f vs)
+    at : (b : Bool) → (fold (λ s x. note s (f x) x) (f v, ns) vs).1 ≡ ns ++ numbers_noted (f v) f vs → (fold (λ s x. note s (f x) x) (f v, ns ++ v ∷ []) vs).1 ≡ (ns ++ v ∷ []) ++ numbers_noted (f v) f vs
+        → (fold (λ s x. note s (f x) x) (f v, (if b then ns else ns ++ v ∷ [])) vs).1 ≡ ns ++ (if b then numbers_noted (f v) f vs else v ∷ numbers_noted (f v) f vs)
     at true one two = one
-    at false one two = two ∙ append_assoc ns (v ∷ []) (noted (f v) f vs)
+    at false one two = two ∙ append_assoc ns (v ∷ []) (numbers_noted (f v) f vs)
 
-pub after_visits_noted : (f : ℤ → Bool) (visited : List ℤ) → (after_visits f visited).1 ≡ noted false f visited
+pub after_visits_noted : (f : ℤ → Bool) (visited : List ℤ) → (after_visits f visited).1 ≡ numbers_noted false f visited
 after_visits_noted f visited = after_from f false [] visited
 
 -- the notes of all lines are those of each
@@ -63,15 +63,15 @@ unfolding i64_runs
 each_runs [] visited lits w h = refl
 each_runs (l ∷ part) visited lits w h =
     let between : IsConstantBetween l.1 greatest least w.later = λ x p q e. line_value (l ∷ part) 0 l x (x -ℤ pos 1) refl (h x q (w.complete x p q e)) in
-    let one : from_cuts greatest (noted false l.1 (least ∷ w.later)) ≡ runs l.1 least 18446744073709551615 = noted_are_runs l.1 least greatest 18446744073709551615 w.later width w.ascending between in
+    let one : from_cuts greatest (numbers_noted false l.1 (least ∷ w.later)) ≡ runs l.1 least 18446744073709551615 = noted_are_runs l.1 least greatest 18446744073709551615 w.later width w.ascending between in
     let two : from_cuts greatest (after_visits l.1 visited).1 ≡ runs l.1 least 18446744073709551615 = rw (after_visits_noted l.1 visited, w.begins) one in
     let rest = each_runs part visited lits w (λ x q e. rest_on l part x (x -ℤ pos 1) (h x q e)) in
     cc
 
 pub walk_gives_runs : (text : List ℕ) (visited : List ℤ) → IsWalk least greatest (literal_cuts text) visited
-    → map (λ (n : Bool × List ℤ). from_cuts greatest n.1) (walk_lines (named text) (no_notes (named text)) visited) ≡ map (λ l. i64_runs l.1) (named text)
+    → map (λ (n : Bool × List ℤ). from_cuts greatest n.1) (walk_lines (named_lines text) (no_notes (named_lines text)) visited) ≡ map (λ l. i64_runs l.1) (named_lines text)
 walk_gives_runs text visited w =
-    rw (walk_is_each (named text) visited) (rw (map-map (λ (n : Bool × List ℤ). from_cuts greatest n.1) (λ (l : List ℕ × (ℤ → Bool)). after_visits l.1 visited) (named text)) (each_runs (named text) visited (literal_cuts text) w (λ x q e. changes_at_literals text x q e)))
+    rw (walk_is_each (named_lines text) visited) (rw (map-map (λ (n : Bool × List ℤ). from_cuts greatest n.1) (λ (l : List ℕ × (ℤ → Bool)). after_visits l.1 visited) (named_lines text)) (each_runs (named_lines text) visited (literal_cuts text) w (λ x q e. changes_at_literals text x q e)))
 
 -- and ascend
 noted_in_walk : (ls : Lines) (visited lits : List ℤ) → IsWalk least greatest lits visited → AllByRecursion (λ (n : Bool × List ℤ). IsAscending least greatest n.1) (map (λ l. after_visits l.1 visited) ls)
@@ -130,26 +130,26 @@ as_many compiled ls visited k h =
     omega (arith, a, b, d)
 
 -- what a walk over the places notes of each line makes the runs of the line
-pub places_give_runs : (text : List ℕ) (compiled : List (List Step)) (visited : List ℤ) → IsWalk least greatest (literal_cuts text) visited → IsCompiled visited (named text) compiled
-    → map (λ (n : Bool × List ℤ). from_cuts greatest n.1) (walk_places (values_of compiled) 0 (no_notes compiled) visited) ≡ map (λ l. i64_runs l.1) (named text)
+pub places_give_runs : (text : List ℕ) (compiled : List (List Step)) (visited : List ℤ) → IsWalk least greatest (literal_cuts text) visited → IsCompiled visited (named_lines text) compiled
+    → map (λ (n : Bool × List ℤ). from_cuts greatest n.1) (walk_places (values_of compiled) 0 (no_notes compiled) visited) ≡ map (λ l. i64_runs l.1) (named_lines text)
 places_give_runs text compiled visited w h =
     let some : 0 < length visited = rw w.begins (omega arith) in
-    let e : walk_places (values_of compiled) 0 (no_notes compiled) visited ≡ walk_lines (named text) (no_notes compiled) visited =
-    places_walk compiled (named text) 0 (no_notes compiled) visited (λ i k. let z : 0 + i ≡ i = omega arith in rw z (h i k)) in
-    rw (e, no_notes_alike compiled (named text) (as_many compiled (named text) visited some h)) (walk_gives_runs text visited w)
+    let e : walk_places (values_of compiled) 0 (no_notes compiled) visited ≡ walk_lines (named_lines text) (no_notes compiled) visited =
+    places_walk compiled (named_lines text) 0 (no_notes compiled) visited (λ i k. let z : 0 + i ≡ i = omega arith in rw z (h i k)) in
+    rw (e, no_notes_alike compiled (named_lines text) (as_many compiled (named_lines text) visited some h)) (walk_gives_runs text visited w)
 
 -- the visited numbers ascend
 pub walk_rises : (lits visited : List ℤ) → IsWalk least greatest lits visited → IsAscending least greatest visited
 walk_rises lits visited w = rw w.begins (omega (arith, ints), omega (arith, ints, width), w.ascending)
 
 -- and so do those noted of each line
-pub places_ascend : (text : List ℕ) (compiled : List (List Step)) (visited : List ℤ) → IsWalk least greatest (literal_cuts text) visited → IsCompiled visited (named text) compiled
+pub places_ascend : (text : List ℕ) (compiled : List (List Step)) (visited : List ℤ) → IsWalk least greatest (literal_cuts text) visited → IsCompiled visited (named_lines text) compiled
     → AllByRecursion (λ (n : Bool × List ℤ). IsAscending least greatest n.1) (walk_places (values_of compiled) 0 (no_notes compiled) visited)
 places_ascend text compiled visited w h =
     let some : 0 < length visited = rw w.begins (omega arith) in
-    let e : walk_places (values_of compiled) 0 (no_notes compiled) visited ≡ walk_lines (named text) (no_notes compiled) visited =
-    places_walk compiled (named text) 0 (no_notes compiled) visited (λ i k. let z : 0 + i ≡ i = omega arith in rw z (h i k)) in
-    rw (e, no_notes_alike compiled (named text) (as_many compiled (named text) visited some h)) (walk_ascends (named text) visited (literal_cuts text) w)
+    let e : walk_places (values_of compiled) 0 (no_notes compiled) visited ≡ walk_lines (named_lines text) (no_notes compiled) visited =
+    places_walk compiled (named_lines text) 0 (no_notes compiled) visited (λ i k. let z : 0 + i ≡ i = omega arith in rw z (h i k)) in
+    rw (e, no_notes_alike compiled (named_lines text) (as_many compiled (named_lines text) visited some h)) (walk_ascends (named_lines text) visited (literal_cuts text) w)
 
 pub walk_some : (lits visited : List ℤ) → IsWalk least greatest lits visited → 0 < length visited
 walk_some lits visited w = rw w.begins (omega arith)

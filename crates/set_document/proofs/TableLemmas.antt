@@ -16,7 +16,7 @@ use Rattle.range_map.specs.Valued.{pairs_in_numbers}
 use Rattle.range_multimap.specs.Grouped.{grouped_at, group_of}
 use Rattle.set_document.proofs.ReadLemmas.{numbers_are}
 use Rattle.set_document.specs.Table.{row_of}
-use Rattle.set_document.specs.Tabled.{held_at_place, tabled}
+use Rattle.set_document.specs.Tabled.{names_of_slot, rows_of_table}
 
 option_is : {V : Type 0} (same : V → V → Bool) → ((a b : V) → same a b ≡ true → a ≡ b) → (a b : Option V) → option_eq same a b ≡ true → a ≡ b
 option_is same decides None None e = refl
@@ -61,11 +61,11 @@ module _ (lo hi : ℤ) (h : ℤ → List ℕ) (groups : List ((ℤ × ℤ) × Li
       no_more None = refl
       no_more (Some i) = let e : i + 0 ≡ i = omega arith in ap Some e
 
-  held_there : (x : ℤ) → lo ≤ℤ x → x ≤ℤ hi → held_at_place groups (place_at groups x) ≡ h x
+  held_there : (x : ℤ) → lo ≤ℤ x → x ≤ℤ hi → names_of_slot groups (place_at groups x) ≡ h x
   held_there x p q = ap (λ r. unwrap_or r []) (value_is_placed groups x ∙ group_at x p q) ∙ group_read (h x)
 
-  pub row_at : (x : ℤ) → lo ≤ℤ x → x ≤ℤ hi → value_at (tabled groups slots) x ≡ Some (h x)
-  row_at x p q = value_revalued (held_at_place groups) slots x ∙ (ap (option_map (held_at_place groups)) (slot_at x p q) ∙ ap Some (held_there x p q))
+  pub row_at : (x : ℤ) → lo ≤ℤ x → x ≤ℤ hi → value_at (rows_of_table groups slots) x ≡ Some (h x)
+  row_at x p q = value_revalued (names_of_slot groups) slots x ∙ (ap (option_map (names_of_slot groups)) (slot_at x p q) ∙ ap Some (held_there x p q))
 
   some_is : {V : Type 0} {a b : V} → Some a ≡ Some b → a ≡ b
   some_is e = cc
@@ -83,24 +83,24 @@ module _ (lo hi : ℤ) (h : ℤ → List ℕ) (groups : List ((ℤ × ℤ) × Li
       go (Some v) some alike = same_value_same_place (pointwise nat_eq) hi lo groups x v v groups_canonical some (sym alike ∙ some) (list_itself v)
 
   slots_apart : (x : ℤ) (a b : Option ℕ) → lo ≤ℤ x → x <ℤ hi → value_at slots x ≡ Some a → value_at slots (x +ℤ pos 1) ≡ Some b
-      → option_eq nat_eq a b ≡ false → pointwise nat_eq (held_at_place groups a) (held_at_place groups b) ≡ false
-  slots_apart x a b p q e f differ = go (pointwise nat_eq (held_at_place groups a) (held_at_place groups b)) refl
+      → option_eq nat_eq a b ≡ false → pointwise nat_eq (names_of_slot groups a) (names_of_slot groups b) ≡ false
+  slots_apart x a b p q e f differ = go (pointwise nat_eq (names_of_slot groups a) (names_of_slot groups b)) refl
     where
-      go : (t : Bool) → pointwise nat_eq (held_at_place groups a) (held_at_place groups b) ≡ t → t ≡ false
+      go : (t : Bool) → pointwise nat_eq (names_of_slot groups a) (names_of_slot groups b) ≡ t → t ≡ false
       go false k = refl
       go true k =
           let a_is : a ≡ place_at groups x = some_is (sym e ∙ slot_at x p (omega (arith, ints))) in
           let b_is : b ≡ place_at groups (x +ℤ pos 1) = some_is (sym f ∙ slot_at (x +ℤ pos 1) (omega (arith, ints)) (omega (arith, ints))) in
-          let alike : held_at_place groups a ≡ held_at_place groups b = list_is (held_at_place groups a) (held_at_place groups b) k in
+          let alike : names_of_slot groups a ≡ names_of_slot groups b = list_is (names_of_slot groups a) (names_of_slot groups b) k in
           let here = held_there x p (omega (arith, ints)) in
           let there = held_there (x +ℤ pos 1) (omega (arith, ints)) (omega (arith, ints)) in
-          let one : h x ≡ h (x +ℤ pos 1) = sym here ∙ (ap (held_at_place groups) (sym a_is) ∙ (alike ∙ (ap (held_at_place groups) b_is ∙ there))) in
+          let one : h x ≡ h (x +ℤ pos 1) = sym here ∙ (ap (names_of_slot groups) (sym a_is) ∙ (alike ∙ (ap (names_of_slot groups) b_is ∙ there))) in
           let same : a ≡ b = a_is ∙ (one_slot x p q one ∙ sym b_is) in
           let itself : option_eq nat_eq a b ≡ true = ap (option_eq nat_eq a) (sym same) ∙ place_itself a in
           absurd cc
 
-  pub rows_canonical : IsCanonicalMap (pointwise nat_eq) lo hi (tabled groups slots)
-  rows_canonical = revalued_canonical (held_at_place groups) (option_eq nat_eq) (pointwise nat_eq) hi lo slots slots_canonical slots_apart
+  pub rows_canonical : IsCanonicalMap (pointwise nat_eq) lo hi (rows_of_table groups slots)
+  rows_canonical = revalued_canonical (names_of_slot groups) (option_eq nat_eq) (pointwise nat_eq) hi lo slots slots_canonical slots_apart
 
 -- rows with the names that hold at each number are the rows of the segments
 row_read : (rows : List ((ℤ × ℤ) × List ℕ)) → map row_of (map segment_of rows) ≡ rows

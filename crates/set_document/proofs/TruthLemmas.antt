@@ -2,10 +2,11 @@
 use Rattle.std.proofs.Common.{◌≡◌, List, [], ◌∷◌, ◌++◌, refl, ap, ◌∙◌}
 use Rattle.std.specs.Prelude.{ℕ, ℤ, Bool, map, fold, Option}
 use Rattle.std.proofs.lemmas.List.{map-append}
-use Rattle.set_document.specs.Text.{Form, Comment, Named, Bad, form, words, lines}
+use Rattle.text_lines.specs.Lines.{words, lines}
+use Rattle.set_document.specs.Text.{Form, Comment, Named, Bad, form}
 use Rattle.set_document.specs.Lines.{pairs_of}
 use Rattle.set_document.specs.declared.truth.Known.{Known}
-use Rattle.set_document.specs.Truth.{Lines, at, after_form, after_lines, after_words, named}
+use Rattle.set_document.specs.Truth.{Lines, at, after_form, after_lines, after_words, named_lines}
 use Rattle.truth_blocks.specs.Stack.{last_value}
 
 -- what the named lines give at x after one more line
@@ -26,8 +27,8 @@ at_lines : (x : ℤ) (ls : Lines) (pieces : List (List ℕ)) → at (after_lines
 at_lines x ls [] = refl
 at_lines x ls (p ∷ ps) = at_lines x (after_form ls (form p)) ps ∙ ap (λ e. lines_at x e ps) (at_form x ls (form p))
 
-pub at_named : (x : ℤ) (text : List ℕ) → at (named text) x ≡ lines_at x [] (lines text)
-unfolding named
+pub at_named : (x : ℤ) (text : List ℕ) → at (named_lines text) x ≡ lines_at x [] (lines text)
+unfolding named_lines
 at_named x text = at_lines x [] (lines text)
 
 -- a named line adds its name with what its words give

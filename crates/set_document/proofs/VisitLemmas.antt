@@ -10,7 +10,7 @@ use Rattle.number_line.proofs.SegmentLemmas.{distance, cut_is_segments}
 use Rattle.cut_points.specs.Cuts.{from_cuts, IsAscending}
 use Rattle.cut_points.proofs.CutLemmas.{changes, ascending_from, has_cons, has_below, eq_less, eq_same, eq_more}
 use Rattle.cut_points.proofs.RunLemmas.{changes_are_runs}
-use Rattle.set_document.specs.Visits.{noted, walk, IsConstantBetween}
+use Rattle.set_document.specs.Visits.{numbers_noted, walk, IsConstantBetween}
 
 -- f is one from b to b + k, where no number between is visited
 constant_on : {L : Type 0} (f : ℤ → L) (b : ℤ) (k : ℕ) → ((x : ℤ) → b <ℤ x → x ≤ℤ (b +ℤ pos k) → f x ≡ f (x -ℤ pos 1)) → f (b +ℤ pos k) ≡ f b
@@ -31,12 +31,12 @@ as_at_last f hi b v vs less a h =
 later_on : {L : Type 0} (f : ℤ → L) (hi b v : ℤ) (vs : List ℤ) → b <ℤ v → IsConstantBetween f hi b (v ∷ vs) → IsConstantBetween f hi v vs
 later_on f hi b v vs less h = λ x p q e. h x (omega (arith, ints)) q (has_cons v vs x ∙ rw (eq_less v x p) e)
 
-pub noted_ascends : (before : Bool) (f : ℤ → Bool) (lo hi : ℤ) (vs : List ℤ) → IsAscending lo hi vs → IsAscending lo hi (noted before f vs)
+pub noted_ascends : (before : Bool) (f : ℤ → Bool) (lo hi : ℤ) (vs : List ℤ) → IsAscending lo hi vs → IsAscending lo hi (numbers_noted before f vs)
 noted_ascends before f lo hi [] a = tt
 noted_ascends before f lo hi (v ∷ vs) a = at (noted_ascends (f v) f (v +ℤ pos 1) hi vs a.2) (same_bool before (f v))
   where
-    at : IsAscending (v +ℤ pos 1) hi (noted (f v) f vs) → (b : Bool) → IsAscending lo hi (if b then noted (f v) f vs else v ∷ noted (f v) f vs)
-    at ih true = ascending_from (v +ℤ pos 1) lo hi (noted (f v) f vs) (omega (arith, ints)) ih
+    at : IsAscending (v +ℤ pos 1) hi (numbers_noted (f v) f vs) → (b : Bool) → IsAscending lo hi (if b then numbers_noted (f v) f vs else v ∷ numbers_noted (f v) f vs)
+    at ih true = ascending_from (v +ℤ pos 1) lo hi (numbers_noted (f v) f vs) (omega (arith, ints)) ih
     at ih false = (a.0, a.1, ih)
 
 xor_self : (a b : Bool) → a ≡ b → false ≡ xor a b
@@ -51,57 +51,57 @@ differ false false = refl
 
 -- behind b the noted numbers are those at which f changes
 noted_has : (f : ℤ → Bool) (hi b : ℤ) (vs : List ℤ) → IsAscending (b +ℤ pos 1) hi vs → IsConstantBetween f hi b vs
-    → (x : ℤ) → b <ℤ x → x ≤ℤ hi → has int_cmp (noted (f b) f vs) x ≡ xor (f x) (f (x -ℤ pos 1))
+    → (x : ℤ) → b <ℤ x → x ≤ℤ hi → has int_cmp (numbers_noted (f b) f vs) x ≡ xor (f x) (f (x -ℤ pos 1))
 noted_has f hi b [] a h x p q = xor_self (f x) (f (x -ℤ pos 1)) (h x p q refl)
 noted_has f hi b (v ∷ vs) a h x p q = by_lt_z x v before (λ k. by_lt_z v x (after (noted_has f hi v vs a.2 (later_on f hi b v vs (omega (arith, ints)) h) x)) (λ m. here (omega (arith, ints))))
   where
     rest : List ℤ
-    rest = noted (f v) f vs
+    rest = numbers_noted (f v) f vs
 
-    before : x <ℤ v → has int_cmp (noted (f b) f (v ∷ vs)) x ≡ xor (f x) (f (x -ℤ pos 1))
+    before : x <ℤ v → has int_cmp (numbers_noted (f b) f (v ∷ vs)) x ≡ xor (f x) (f (x -ℤ pos 1))
     before k =
         let up : IsAscending v hi (v ∷ vs) = (omega (arith, ints), a.1, a.2) in
-        has_below v hi (noted (f b) f (v ∷ vs)) x (noted_ascends (f b) f v hi (v ∷ vs) up) k
+        has_below v hi (numbers_noted (f b) f (v ∷ vs)) x (noted_ascends (f b) f v hi (v ∷ vs) up) k
         ∙ xor_self (f x) (f (x -ℤ pos 1)) (h x p q (has_below v hi (v ∷ vs) x up k))
 
-    after : (v <ℤ x → x ≤ℤ hi → has int_cmp (noted (f v) f vs) x ≡ xor (f x) (f (x -ℤ pos 1))) → v <ℤ x → has int_cmp (noted (f b) f (v ∷ vs)) x ≡ xor (f x) (f (x -ℤ pos 1))
+    after : (v <ℤ x → x ≤ℤ hi → has int_cmp (numbers_noted (f v) f vs) x ≡ xor (f x) (f (x -ℤ pos 1))) → v <ℤ x → has int_cmp (numbers_noted (f b) f (v ∷ vs)) x ≡ xor (f x) (f (x -ℤ pos 1))
     after ih m = at (same_bool (f b) (f v))
       where
-        at : (c : Bool) → has int_cmp (if c then noted (f v) f vs else v ∷ noted (f v) f vs) x ≡ xor (f x) (f (x -ℤ pos 1))
+        at : (c : Bool) → has int_cmp (if c then numbers_noted (f v) f vs else v ∷ numbers_noted (f v) f vs) x ≡ xor (f x) (f (x -ℤ pos 1))
         at true = ih m q
-        at false = has_cons v (noted (f v) f vs) x ∙ rw (eq_less v x m) (ih m q)
+        at false = has_cons v (numbers_noted (f v) f vs) x ∙ rw (eq_less v x m) (ih m q)
 
-    here : x ≡ v → has int_cmp (noted (f b) f (v ∷ vs)) x ≡ xor (f x) (f (x -ℤ pos 1))
+    here : x ≡ v → has int_cmp (numbers_noted (f b) f (v ∷ vs)) x ≡ xor (f x) (f (x -ℤ pos 1))
     here e =
         let last : f (v -ℤ pos 1) ≡ f b = as_at_last f hi b v vs (omega (arith, ints)) a h in
-        let none : has int_cmp (noted (f v) f vs) v ≡ false = has_below (v +ℤ pos 1) hi (noted (f v) f vs) v (noted_ascends (f v) f (v +ℤ pos 1) hi vs a.2) (omega (arith, ints)) in
+        let none : has int_cmp (numbers_noted (f v) f vs) v ≡ false = has_below (v +ℤ pos 1) hi (numbers_noted (f v) f vs) v (noted_ascends (f v) f (v +ℤ pos 1) hi vs a.2) (omega (arith, ints)) in
         rw (e, last) (at (same_bool (f b) (f v)) none ∙ differ (f b) (f v))
       where
-        at : (c : Bool) → has int_cmp (noted (f v) f vs) v ≡ false → has int_cmp (if c then noted (f v) f vs else v ∷ noted (f v) f vs) v ≡ not c
+        at : (c : Bool) → has int_cmp (numbers_noted (f v) f vs) v ≡ false → has int_cmp (if c then numbers_noted (f v) f vs else v ∷ numbers_noted (f v) f vs) v ≡ not c
         at true none = none
-        at false none = has_cons v (noted (f v) f vs) v ∙ rw (eq_same v) refl
+        at false none = has_cons v (numbers_noted (f v) f vs) v ∙ rw (eq_same v) refl
 
 -- the ranges of the noted numbers are the runs
 pub noted_are_runs : (f : ℤ → Bool) (lo hi : ℤ) (n : ℕ) (vs : List ℤ) → hi ≡ lo +ℤ pos n → IsAscending (lo +ℤ pos 1) hi vs → IsConstantBetween f hi lo vs
-    → from_cuts hi (noted false f (lo ∷ vs)) ≡ runs f lo n
+    → from_cuts hi (numbers_noted false f (lo ∷ vs)) ≡ runs f lo n
 noted_are_runs f lo hi n vs e a h =
-    changes_are_runs lo hi n (noted false f (lo ∷ vs)) f e (noted_ascends false f lo hi (lo ∷ vs) (omega (arith, ints), omega (arith, ints), a))
+    changes_are_runs lo hi n (numbers_noted false f (lo ∷ vs)) f e (noted_ascends false f lo hi (lo ∷ vs) (omega (arith, ints), omega (arith, ints), a))
     (λ x p q. by_lt_z lo x (λ k. above x k (noted_has f hi lo vs a h x k q)) (λ k. least x (omega (arith, ints))))
   where
-    above : (x : ℤ) → lo <ℤ x → has int_cmp (noted (f lo) f vs) x ≡ xor (f x) (f (x -ℤ pos 1)) → has int_cmp (noted false f (lo ∷ vs)) x ≡ changes lo f x
+    above : (x : ℤ) → lo <ℤ x → has int_cmp (numbers_noted (f lo) f vs) x ≡ xor (f x) (f (x -ℤ pos 1)) → has int_cmp (numbers_noted false f (lo ∷ vs)) x ≡ changes lo f x
     above x k i = rw (eq_more x lo k) (at (same_bool false (f lo)))
       where
-        at : (c : Bool) → has int_cmp (if c then noted (f lo) f vs else lo ∷ noted (f lo) f vs) x ≡ xor (f x) (f (x -ℤ pos 1))
+        at : (c : Bool) → has int_cmp (if c then numbers_noted (f lo) f vs else lo ∷ numbers_noted (f lo) f vs) x ≡ xor (f x) (f (x -ℤ pos 1))
         at true = i
-        at false = has_cons lo (noted (f lo) f vs) x ∙ rw (eq_less lo x k) i
+        at false = has_cons lo (numbers_noted (f lo) f vs) x ∙ rw (eq_less lo x k) i
 
-    least : (x : ℤ) → x ≡ lo → has int_cmp (noted false f (lo ∷ vs)) x ≡ changes lo f x
+    least : (x : ℤ) → x ≡ lo → has int_cmp (numbers_noted false f (lo ∷ vs)) x ≡ changes lo f x
     least x m =
-        let none : has int_cmp (noted (f lo) f vs) lo ≡ false = has_below (lo +ℤ pos 1) hi (noted (f lo) f vs) lo (noted_ascends (f lo) f (lo +ℤ pos 1) hi vs a) (omega (arith, ints)) in
+        let none : has int_cmp (numbers_noted (f lo) f vs) lo ≡ false = has_below (lo +ℤ pos 1) hi (numbers_noted (f lo) f vs) lo (noted_ascends (f lo) f (lo +ℤ pos 1) hi vs a) (omega (arith, ints)) in
         rw (m, eq_same lo) (at (f lo) refl none)
       where
-        at : (c : Bool) → f lo ≡ c → has int_cmp (noted (f lo) f vs) lo ≡ false → has int_cmp (if same_bool false c then noted (f lo) f vs else lo ∷ noted (f lo) f vs) lo ≡ c
-        at true d none = has_cons lo (noted (f lo) f vs) lo ∙ rw (eq_same lo) refl
+        at : (c : Bool) → f lo ≡ c → has int_cmp (numbers_noted (f lo) f vs) lo ≡ false → has int_cmp (if same_bool false c then numbers_noted (f lo) f vs else lo ∷ numbers_noted (f lo) f vs) lo ≡ c
+        at true d none = has_cons lo (numbers_noted (f lo) f vs) lo ∙ rw (eq_same lo) refl
         at false d none = none
 
 -- ---- rows

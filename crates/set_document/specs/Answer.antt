@@ -3,7 +3,7 @@ use Rattle.std.specs.Prelude.{ℕ, ℤ, List, [], ◌∷◌, ◌++◌, map, flat
 use Rattle.std.specs.Fmt.{signed_decimal}
 use Rattle.set_document.specs.Numbers.{i64_runs}
 use Rattle.set_document.specs.Table.{names, rows}
-use Rattle.set_document.specs.Truth.{named}
+use Rattle.set_document.specs.Truth.{named_lines}
 
 -- a range as it is written in a document
 abbrev pub range_text : ℤ × ℤ → List ℕ
@@ -27,10 +27,10 @@ abbrev pub lines_text : List (List ℕ × List (ℤ × ℤ)) → List ℕ
 lines_text ls = flat_map line_text ls
 
 -- the named lines of a text in order, each with its name and the maximal runs of the numbers at which it is true
-unfoldable pub listed : List ℕ → List (List ℕ × List (ℤ × ℤ))
-listed text = map (λ l. (l.0, i64_runs l.1)) (named text)
+unfoldable pub line_lists : List ℕ → List (List ℕ × List (ℤ × ℤ))
+line_lists text = map (λ l. (l.0, i64_runs l.1)) (named_lines text)
 
--- a name behind a space, where there is one at that place
+-- a name behind a space, where there is one at that index
 abbrev pub name_text : List (List ℕ) → ℕ → List ℕ
 name_text names i = elim (slice_get names i) [ Some name ↦ codes " " ++ name | None ↦ [] ]
 
@@ -41,19 +41,20 @@ row_text names row = codes "# " ++ (range_text row.0 ++ (flat_map (name_text nam
 abbrev pub rows_text : List (List ℕ) → List ((ℤ × ℤ) × List ℕ) → List ℕ
 rows_text names rows = flat_map (row_text names) rows
 
--- what an answer says: each named line with its ranges, the distinct names in order, and the rows of the table, each with the places of the
--- names that hold there
+-- what an answer says: each named line with its ranges, the distinct names in order, and the rows of the table, each with the indices of
+-- the names that hold there
 pub record Shape : Type 0 where
   pub lines : List (List ℕ × List (ℤ × ℤ))
   pub names : List (List ℕ)
   pub rows : List ((ℤ × ℤ) × List ℕ)
 
 unfoldable pub shape : List ℕ → Shape
-shape text = record { lines = listed text; names = names text; rows = rows text }
+shape text = record { lines = line_lists text; names = names text; rows = rows text }
 
-abbrev pub printed : Shape → List ℕ
-printed shape = lines_text shape.lines ++ rows_text shape.names shape.rows
+-- the bytes of what an answer says: its lines, and then its rows
+abbrev pub shape_text : Shape → List ℕ
+shape_text shape = lines_text shape.lines ++ rows_text shape.names shape.rows
 
 -- what is written for a text without a fault: its list lines, and then its table
 unfoldable pub answer : List ℕ → List ℕ
-answer text = printed (shape text)
+answer text = shape_text (shape text)

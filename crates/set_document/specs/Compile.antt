@@ -3,13 +3,8 @@ use Rattle.std.specs.Prelude.{◌≡◌, ℕ, ◌<◌, ℤ, pos, Bool, List, [],
 use Rattle.set_document.specs.Text.{Kind}
 use Rattle.set_document.specs.Truth.{after_word, after_words}
 use Rattle.truth_blocks.specs.Stack.{last_value}
-use Rattle.set_document.specs.Words.{letters}
-use Rattle.set_document.specs.declared.word.Name.{Name}
 use Rattle.truth_blocks.specs.Blocks.{after_step, line_value}
 use Rattle.truth_blocks.specs.declared.step.Step.{Step}
-
-abbrev pub known : List Name → List (List ℕ)
-known names = map letters names
 
 -- the truth values after a step, where there is one
 abbrev pub after_some : List Bool → ℕ → List Bool → Option Step → List Bool
@@ -28,7 +23,7 @@ AreLineSteps visited names pieces steps = (earlier : List (List ℕ × Bool)) (p
     → line_value (map (λ l. l.1) earlier) p steps ≡ last_value (after_words earlier (get_or visited p (pos 0)) [] pieces)
 
 -- names with values
-abbrev pub paired : List (List ℕ) → List Bool → List (List ℕ × Bool)
-paired [] values = []
-paired (n ∷ ns) [] = []
-paired (n ∷ ns) (v ∷ vs) = (n, v) ∷ paired ns vs
+abbrev pub names_with_values : List (List ℕ) → List Bool → List (List ℕ × Bool)
+names_with_values [] values = []
+names_with_values (n ∷ ns) [] = []
+names_with_values (n ∷ ns) (v ∷ vs) = (n, v) ∷ names_with_values ns vs

@@ -7,13 +7,14 @@ use Rattle.number_line.specs.Segments.{Segment, IsCut, IsCover}
 use Rattle.std.specs.Ordering.{int_cmp}
 use Rattle.ordered_lists.specs.Lists.{has}
 use Rattle.cut_points.specs.Cuts.{cuts}
-use Rattle.set_document.specs.Answer.{answer, listed}
+use Rattle.set_document.specs.Answer.{answer, line_lists}
 use Rattle.set_document.specs.Faults.{IsWellFormed}
 use Rattle.set_document.specs.Literals.{literals, literal_cuts}
 use Rattle.set_document.specs.Numbers.{least, greatest, i64_runs}
-use Rattle.set_document.specs.Table.{names, held, rows}
-use Rattle.set_document.specs.Text.{lines, form, Comment}
-use Rattle.set_document.specs.Truth.{at, named}
+use Rattle.set_document.specs.Table.{names, names_held, rows}
+use Rattle.text_lines.specs.Lines.{lines}
+use Rattle.set_document.specs.Text.{form, Comment}
+use Rattle.set_document.specs.Truth.{at, named_lines}
 
 -- the runs of a test of numbers are the one canonical list that holds just the numbers that pass it
 abbrev pub RunsAreTheRanges : Type 0
@@ -31,8 +32,8 @@ segment_of row = record { first = row.0.0; last = row.0.1; label = row.1 }
 pub record FewestRows (text : List ℕ) : Type 0 where
   pub comments : AllByRecursion (λ line. form line ≡ Comment) (lines text)
       → (names text ≡ []) × (rows text ≡ ((least, greatest), []) ∷ [])
-  pub cut : IsCut (pointwise nat_eq) (λ x. held (at (named text) x)) greatest least (map segment_of (rows text))
-  pub fewest : (cover : List (ℤ × ℤ)) → IsCover (λ x. held (at (named text) x)) greatest least cover
+  pub cut : IsCut (pointwise nat_eq) (λ x. names_held (at (named_lines text) x)) greatest least (map segment_of (rows text))
+  pub fewest : (cover : List (ℤ × ℤ)) → IsCover (λ x. names_held (at (named_lines text) x)) greatest least cover
       → length (rows text) ≤ length cover
 
 abbrev pub RowsAreFewest : Type 0
@@ -46,20 +47,20 @@ AnswersReadBack = (text : List ℕ) → IsWellFormed (answer text) × (answer (a
 -- with a fault
 abbrev pub TruthChangesAtCuts : Type 0
 TruthChangesAtCuts = (text : List ℕ) (x : ℤ) → x ≤ℤ greatest → has int_cmp (literal_cuts text) x ≡ false
-    → at (named text) x ≡ at (named text) (x -ℤ pos 1)
+    → at (named_lines text) x ≡ at (named_lines text) (x -ℤ pos 1)
 
 -- each cut of a line's runs is the least number, or a cut of a number or range of the text
 abbrev pub RunCutsAreLiteral : Type 0
 RunCutsAreLiteral = (text : List ℕ)
     → AllByRecursion (λ line. (x : ℤ) → has int_cmp (cuts greatest line.1) x ≡ true
-    → (x ≡ least) ⊎ (has int_cmp (literal_cuts text) x ≡ true)) (listed text)
+    → (x ≡ least) ⊎ (has int_cmp (literal_cuts text) x ≡ true)) (line_lists text)
 
 -- no line has more runs than the text has numbers and ranges, and one
 abbrev pub HasFewRanges : List ℕ → List (List ℕ × List (ℤ × ℤ)) → Type 0
 HasFewRanges text lines = AllByRecursion (λ line. length line.1 ≤ length (literals text) + 1) lines
 
 abbrev pub FewRanges : Type 0
-FewRanges = (text : List ℕ) → HasFewRanges text (listed text)
+FewRanges = (text : List ℕ) → HasFewRanges text (line_lists text)
 
 -- nor are there more rows than twice as many, and one
 abbrev pub FewRows : Type 0

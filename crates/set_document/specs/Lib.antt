@@ -6,9 +6,11 @@ pub mod FaultText
 pub mod Table
 pub mod Tabled
 pub mod Answer
+pub mod Labels
 pub mod Words
 pub mod Lines
 pub mod Names
+pub mod Indexed
 pub mod Steps
 pub mod Laws
 pub mod Sample

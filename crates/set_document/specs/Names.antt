@@ -21,12 +21,12 @@ abbrev pub name_cmp : Name → Name → Ordering
 name_cmp a b = bytes_cmp (letters a) (letters b)
 
 -- each of these names once, in their order
-abbrev pub distinct : List (List ℕ) → List (List ℕ)
-distinct names = fold (add bytes_cmp) [] names
+abbrev pub distinct_names : List (List ℕ) → List (List ℕ)
+distinct_names names = fold (add bytes_cmp) [] names
 
 -- each of these names once, in their order, with the place of the last that is it
 abbrev pub with_last_places : List (List ℕ) → List (List ℕ × Option ℕ)
-with_last_places names = map (λ name. (name, last_place names name)) (distinct names)
+with_last_places names = map (λ name. (name, last_place names name)) (distinct_names names)
 
 -- the pairs say of each name where it stands last among `names`
 pub record IsIndex (names : List (List ℕ)) (pairs : List (Name × ℕ)) : Type 0 where
@@ -34,5 +34,5 @@ pub record IsIndex (names : List (List ℕ)) (pairs : List (Name × ℕ)) : Type
   pub lists : map (λ p. (letters p.0, Some p.1)) pairs ≡ with_last_places names
 
 -- for each distinct name, in order, the place of its last line
-abbrev pub AreShown : List (List ℕ) → List ℕ → Type 0
-AreShown names shown = map (last_place names) (distinct names) ≡ map (λ s. Some s) shown
+abbrev pub AreLastPlaces : List (List ℕ) → List ℕ → Type 0
+AreLastPlaces names places = map (last_place names) (distinct_names names) ≡ map (λ s. Some s) places

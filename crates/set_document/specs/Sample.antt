@@ -2,7 +2,7 @@
 -- on, and most lines take the set of the line before.
 use Rattle.std.specs.Prelude.{ℕ, zero, suc, ◌+◌, ◌-◌, ◌*◌, ◌/◌, ◌%◌, ◌==◌, pos, if◌then◌else◌, List, [], ◌∷◌, ◌++◌, codes, length, sum_by}
 use Rattle.std.specs.Fmt.{decimal}
-use Rattle.set_document.specs.Answer.{range_text, Shape, shape, printed}
+use Rattle.set_document.specs.Answer.{range_text, Shape, shape, shape_text}
 
 -- the name of the line at a place, which counts from 0: three letters, at the places k / 676, (k / 26) mod 26 and k mod 26 of `a` to `z`
 abbrev pub sample_name : ℕ → List ℕ
@@ -32,7 +32,7 @@ sample (suc n) = sample n ++ sample_line n
 abbrev pub counts_text : Shape → List ℕ
 counts_text s =
     codes "lines " ++ (decimal (length s.lines) ++ (codes " ranges " ++ (decimal (sum_by (λ l. length l.1) s.lines)
-    ++ (codes " rows " ++ (decimal (length s.rows) ++ (codes " bytes " ++ (decimal (length (printed s)) ++ codes "\n")))))))
+    ++ (codes " rows " ++ (decimal (length s.rows) ++ (codes " bytes " ++ (decimal (length (shape_text s)) ++ codes "\n")))))))
 
 -- the counts of the answer to the sample text of n lines
 unfoldable pub summary : ℕ → List ℕ

@@ -9,9 +9,9 @@ use Rattle.truth_blocks.specs.Notes.{note, note_all}
 use Rattle.truth_blocks.specs.declared.step.Step.{Step}
 
 -- those of the visited numbers at which f is not what it was before, from `before` on
-abbrev pub noted : Bool → (ℤ → Bool) → List ℤ → List ℤ
-noted before f [] = []
-noted before f (v ∷ vs) = if same_bool before (f v) then noted (f v) f vs else v ∷ noted (f v) f vs
+abbrev pub numbers_noted : Bool → (ℤ → Bool) → List ℤ → List ℤ
+numbers_noted before f [] = []
+numbers_noted before f (v ∷ vs) = if same_bool before (f v) then numbers_noted (f v) f vs else v ∷ numbers_noted (f v) f vs
 
 -- the rows from `first` on, where a new one begins at a visited number whose label is not that of `first`
 abbrev pub walk : {L : Type 0} → (L → L → Bool) → (ℤ → L) → ℤ → ℤ → List ℤ → List (Segment L)
@@ -53,14 +53,14 @@ end_before hi [] = hi
 end_before hi (r ∷ rest) = r.0 -ℤ pos 1
 
 -- the numbers of the first row
-abbrev pub first_closed : ℤ → List (ℤ × List ℕ) → ℤ × ℤ
-first_closed hi [] = (hi, hi)
-first_closed hi (r ∷ rest) = (r.0, end_before hi rest)
+abbrev pub numbers_of_first : ℤ → List (ℤ × List ℕ) → ℤ × ℤ
+numbers_of_first hi [] = (hi, hi)
+numbers_of_first hi (r ∷ rest) = (r.0, end_before hi rest)
 
 -- rows with their last numbers: each ends before the next one, and the last at hi
-abbrev pub closed : ℤ → List (ℤ × List ℕ) → List ((ℤ × ℤ) × List ℕ)
-closed hi [] = []
-closed hi (r ∷ rest) = ((r.0, end_before hi rest), r.1) ∷ closed hi rest
+abbrev pub rows_with_ends : ℤ → List (ℤ × List ℕ) → List ((ℤ × ℤ) × List ℕ)
+rows_with_ends hi [] = []
+rows_with_ends hi (r ∷ rest) = ((r.0, end_before hi rest), r.1) ∷ rows_with_ends hi rest
 
 -- the first numbers of rows
 abbrev pub firsts : List (ℤ × List ℕ) → List ℤ

@@ -4,7 +4,7 @@ use element_core::NoMemory;
 use std::alloc::Global;
 use std::process::Abort;
 
-/// What is written for what an evaluator answered: its bytes, or its fault and a line feed.
+// What is written for what an evaluator answered: its bytes, or its fault and a line feed.
 fn written(
     alloc: Global,
     answered: Result<Answer<'_>, AlgebraError>,
@@ -15,7 +15,7 @@ fn written(
     }
 }
 
-/// Both evaluators give the bytes that stand beside each text.
+// Both evaluators give the bytes that stand beside each text.
 fn both_give(rt: &impl Abort, alloc: Global, cases: &[(&str, &str)]) -> Result<(), AlgebraError> {
     for (text, wanted) in cases {
         let by_pass = written(alloc, evaluate(alloc, text.as_bytes()))?;
@@ -123,7 +123,7 @@ fn worked_faults_by_both(rt: HostRuntime) -> Result<(), AlgebraError> {
     )
 }
 
-/// The numbers 0, 2, 4 and so on, so many, and where `open` is true all from 1000 on.
+// The numbers 0, 2, 4 and so on, so many, and where `open` is true all from 1000 on.
 fn apart(alloc: Global, count: i64, open: bool) -> Result<Vec<u8>, NoMemory> {
     let mut text = Vec::new(alloc);
     text.extend_from_slice(b"a: empty")?;
@@ -138,7 +138,7 @@ fn apart(alloc: Global, count: i64, open: bool) -> Result<Vec<u8>, NoMemory> {
     Ok(text)
 }
 
-/// Both evaluators give the same bytes, with so many ranges and rows.
+// Both evaluators give the same bytes, with so many ranges and rows.
 fn both_count(
     rt: &impl Abort,
     alloc: Global,
@@ -171,7 +171,7 @@ fn blocks_that_end_before_at_and_behind_a_cut(rt: HostRuntime) -> Result<(), Alg
     Ok(())
 }
 
-/// Lines named `aa`, `ab` and so on, so many, each with the number of its place.
+// Lines named `aa`, `ab` and so on, so many, each with the number of its place.
 fn named_apart(alloc: Global, count: u8) -> Result<Vec<u8>, NoMemory> {
     let mut text = Vec::new(alloc);
     for place in 0..count {

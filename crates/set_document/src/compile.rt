@@ -1,20 +1,20 @@
 //! The lines of a text as steps, once the numbers to visit are known.
 ghost use Rattle.std.specs.Prelude.{◌≡◌, ℕ, ◌+◌, ◌<◌, ℤ, pos, int_le, nat_le, nat_lt, Bool, List, length, map, get_or, IfOk, OnOk, Option, option_map, option_copied};
 ghost use Rattle.cut_points.specs.Cuts.{IsAscending};
-ghost use Rattle.set_document.specs.Compile.{known, after_some, IsWordStep, AreLineSteps};
-ghost use Rattle.set_document.specs.Names.{IsIndex};
+ghost use Rattle.set_document.specs.Compile.{after_some, IsWordStep, AreLineSteps};
 ghost use Rattle.set_document.specs.Numbers.{least, greatest};
-ghost use Rattle.set_document.specs.Text.{words};
-ghost use Rattle.set_document.specs.Truth.{named};
+ghost use Rattle.text_lines.specs.Lines.{words};
+ghost use Rattle.set_document.specs.Truth.{named_lines};
 ghost use Rattle.set_document.specs.Visits.{IsCompiled};
-ghost use Rattle.set_document.specs.Words.{shown};
+ghost use Rattle.set_document.specs.Words.{kind_of_word};
 ghost use Rattle.truth_blocks.specs.Blocks.{after_steps, steps_of};
 
-use crate::line::{LineForm, cut_line, cut_piece, read_line};
+use crate::line::{LineForm, read_line};
 use crate::names::Names;
 use crate::word::{Word, read_word};
 use element_core::NoMemory;
 use std::alloc::Global;
+use text_lines::{cut_line, cut_piece};
 use truth_blocks::{LineSteps, Step};
 
 // The place of the first visited number that is x or above.
@@ -38,8 +38,7 @@ fn place_after(visited: &[i64], x: i64) -> usize
 // The step of a word, or none where the word does nothing.
 fn step_of(names: &Names<'_>, visited: &[i64], found: Option<Word<'_>>) -> Option<Step>
     requires ascending { IsAscending least greatest visited.now }
-    requires indexed { IsIndex (known names.now.list.items) names.now.latest.pairs }
-    ensures { IsWordStep visited.now (known names.now.list.items) (option_map shown found.entry)
+    ensures { IsWordStep visited.now names.now (option_map kind_of_word found.entry)
         result }
 {
     match found {
@@ -86,8 +85,7 @@ fn compile_line(
     rest: Option<&[u8]>,
 ) -> Result<LineSteps, NoMemory>
     requires ascending { IsAscending least greatest visited.now }
-    requires indexed { IsIndex (known names.now.list.items) names.now.latest.pairs }
-    ensures { IfOk result (λ line. AreLineSteps visited.now (known names.now.list.items)
+    ensures { IfOk result (λ line. AreLineSteps visited.now names.now
         (words (option_copied rest.entry)) line.steps.items) }
 {
     let mut steps = Vec::new(alloc);
@@ -100,14 +98,14 @@ fn compile_line(
     Ok(LineSteps { steps })
 }
 
-/// The named lines of a text: their steps, their names, and where each name stands last.
+// The named lines of a text: their steps, their names, and where each name stands last.
 #[derive(Drop)]
 pub(crate) struct Program<'t> {
     pub(crate) lines: Vec<LineSteps>,
     pub(crate) names: Names<'t>,
 }
 
-/// The steps of each named line of a text, which may have faults.
+// The steps of each named line of a text, which may have faults.
 pub(crate) fn compile<'t>(
     alloc: Global,
     text: &'t [u8],
@@ -115,11 +113,10 @@ pub(crate) fn compile<'t>(
 ) -> Result<Program<'t>, NoMemory>
     requires { IsAscending least greatest visited.now }
     ensures steps { IfOk result
-        (λ p. IsCompiled visited.now (named text.now) (steps_of p.lines.items)) }
-    ensures len { IfOk result (λ p. length p.names.list.items ≡ length p.lines.items) }
-    ensures indexed { IfOk result (λ p. IsIndex (known p.names.list.items) p.names.latest.pairs) }
+        (λ p. IsCompiled visited.now (named_lines text.now) (steps_of p.lines.items)) }
+    ensures len { IfOk result (λ p. length p.names ≡ length p.lines.items) }
     ensures names { IfOk result (λ p. 0 < length visited.now
-        → known p.names.list.items ≡ map (λ l. l.0) (named text.now)) }
+        → p.names ≡ map (λ l. l.0) (named_lines text.now)) }
 {
     let mut names = Names::new(alloc);
     let mut done = Vec::new(alloc);

@@ -1,23 +1,24 @@
 //! Evaluates the lines of a document, with a stack of sets for each.
 ghost use Rattle.std.specs.Prelude.{◌≡◌, ℕ, ◌+◌, ◌<◌, ◌≤◌, ℤ, Bool, ◌≤ℤ◌, [], ◌∷◌, ◌++◌, IfOk, IfErr, OnOk, MatchOption, length, List, Option, option_map, option_copied, Some, None};
-ghost use Rattle.number_line.specs.Ranges.{holds, IsCanonical};
+ghost use Rattle.number_line.specs.Ranges.{holds};
 ghost use Rattle.set_document.specs.Numbers.{least, greatest};
-ghost use Rattle.set_document.specs.Text.{words, form, Not};
-ghost use Rattle.set_document.specs.Truth.{after_form, named, truth};
-ghost use Rattle.set_document.specs.Faults.{judge_word, fault_in_words, fault_in_form, names_after, first_fault, IsWellFormed, Depth};
-ghost use Rattle.set_document.specs.Words.{shown};
-ghost use Rattle.set_document.specs.Lines.{lines_of, names_of, Agree, AllCanonical};
-ghost use Rattle.set_document.specs.Names.{IsIndex};
-ghost use Rattle.set_document.specs.Steps.{IsStep, IsStepAfter, IsFault, IsFirstFault, kind_of};
+ghost use Rattle.text_lines.specs.Lines.{words};
+ghost use Rattle.set_document.specs.Text.{form, Not};
+ghost use Rattle.set_document.specs.Truth.{after_form, named_lines, truth};
+ghost use Rattle.set_document.specs.Faults.{fault_in_words, fault_in_form, names_after, first_fault, IsWellFormed};
+ghost use Rattle.set_document.specs.Words.{kind_of_word};
+ghost use Rattle.set_document.specs.Lines.{lines_of, names_of, Agree};
+ghost use Rattle.set_document.specs.Steps.{AppliesWord, IsFirstFault, kind_of_operator};
 ghost use Rattle.set_document.specs.declared.fault.AlgebraError.TheVariants as AlgebraError;
 
 use crate::fault::AlgebraError;
-use crate::line::{LineForm, cut_line, cut_piece, read_line};
+use crate::line::{LineForm, read_line};
 use crate::named_lines::NamedLines;
 use crate::word::{Name, Word, read_word};
 use cut_points::{difference, symmetric_difference};
 use range_map::{Range, RangeSet};
 use std::alloc::Global;
+use text_lines::{cut_line, cut_piece};
 
 fn push_set(stack: &mut Vec<RangeSet<i64>>, set: RangeSet<i64>) -> Result<(), AlgebraError>
     ensures pushed { OnOk result (stack.new.items ≡ stack.old.items ++ set ∷ []) }
@@ -44,12 +45,8 @@ fn apply_not(
     line: usize,
     word: usize,
 ) -> Result<(), AlgebraError>
-    ensures depth { OnOk result
-        (judge_word [] line word (length stack.old.items) (Some Not)
-        ≡ Depth (length stack.new.items)) }
-    ensures step { OnOk result (IsStep (Some Not) stack.old.items stack.new.items) }
-    ensures fault { IfErr result
-        (IsFault (judge_word [] line word (length stack.old.items) (Some Not))) }
+    ensures { (lines : List (List ℕ × List (ℤ × ℤ))) → AppliesWord lines line word (Some Not)
+        stack.old.items stack.new.items result }
 {
     let Some(set) = stack.pop() else {
         return Err(AlgebraError::StackShort { line, word });
@@ -74,12 +71,8 @@ fn apply_two(
     word: usize,
     operator: Operator,
 ) -> Result<(), AlgebraError>
-    ensures depth { OnOk result
-        (judge_word [] line word (length stack.old.items) (Some (kind_of operator))
-        ≡ Depth (length stack.new.items)) }
-    ensures step { OnOk result (IsStep (Some (kind_of operator)) stack.old.items stack.new.items) }
-    ensures fault { IfErr result
-        (IsFault (judge_word [] line word (length stack.old.items) (Some (kind_of operator)))) }
+    ensures { (lines : List (List ℕ × List (ℤ × ℤ))) → AppliesWord lines line word
+        (Some (kind_of_operator operator)) stack.old.items stack.new.items result }
 {
     let Some((first, second)) = pop_two(stack) else {
         return Err(AlgebraError::StackShort { line, word });
@@ -102,17 +95,8 @@ fn apply_word<'t>(
     word: usize,
     found: Option<Word<'t>>,
 ) -> Result<(), AlgebraError>
-    requires indexed { IsIndex (names_of done.now.lines.items) done.now.latest.pairs }
-    ensures depth { OnOk result
-        (judge_word (names_of done.now.lines.items) line word (length stack.old.items)
-        (option_map shown found.entry)
-        ≡ Depth (length stack.new.items)) }
-    ensures step { OnOk result
-        (IsStepAfter (lines_of done.now.lines.items) (option_map shown found.entry)
-        stack.old.items stack.new.items) }
-    ensures fault { IfErr result
-        (IsFault (judge_word (names_of done.now.lines.items) line word (length stack.old.items)
-        (option_map shown found.entry))) }
+    ensures { AppliesWord done.now line word (option_map kind_of_word found.entry) stack.old.items
+        stack.new.items result }
 {
     match found {
         Some(Word::Number(n)) => push_set(stack, RangeSet::single(alloc, n)?),
@@ -147,16 +131,14 @@ fn evaluate_words<'t>(
     line: usize,
     rest: Option<&'t [u8]>,
 ) -> Result<RangeSet<i64>, AlgebraError>
-    requires indexed { IsIndex (names_of done.now.lines.items) done.now.latest.pairs }
     ensures fault_free { OnOk result
-        (fault_in_words (names_of done.now.lines.items) line 1 0 (words (option_copied rest.entry))
+        (fault_in_words (names_of done.now) line 1 0 (words (option_copied rest.entry))
         ≡ None) }
-    ensures canonical { IfOk result (IsCanonical least greatest) }
     ensures truth { IfOk result (λ s. (x : ℤ) → least ≤ℤ x → x ≤ℤ greatest
-        → holds s x ≡ truth (lines_of done.now.lines.items) (words (option_copied rest.entry)) x) }
+        → holds s x ≡ truth (lines_of done.now) (words (option_copied rest.entry)) x) }
     ensures fault { IfErr result
         (IsFirstFault
-        (fault_in_words (names_of done.now.lines.items) line 1 0
+        (fault_in_words (names_of done.now) line 1 0
         (words (option_copied rest.entry)))) }
 {
     let mut stack: Vec<RangeSet<i64>> = Vec::new(alloc);
@@ -169,11 +151,7 @@ fn evaluate_words<'t>(
         word += 1;
     }
     match stack.pop() {
-        Some(set) if stack.is_empty() => {
-            // Reading a set tells that it is canonical.
-            let _ = set.ranges();
-            Ok(set)
-        }
+        Some(set) if stack.is_empty() => Ok(set),
         _ => Err(AlgebraError::NotOne { line }),
     }
 }
@@ -185,20 +163,16 @@ fn add_line<'t>(
     line: usize,
     piece: &'t [u8],
 ) -> Result<(), AlgebraError>
-    requires indexed { IsIndex (names_of done.old.lines.items) done.old.latest.pairs }
     ensures fault_free { OnOk result
-        (fault_in_form (names_of done.old.lines.items) line (form piece.now) ≡ None) }
+        (fault_in_form (names_of done.old) line (form piece.now) ≡ None) }
     ensures names { OnOk result
-        (names_of done.new.lines.items ≡ names_after (names_of done.old.lines.items)
+        (names_of done.new ≡ names_after (names_of done.old)
         (form piece.now)) }
     ensures lines { OnOk result
-        (Agree (lines_of done.new.lines.items)
-        (after_form (lines_of done.old.lines.items) (form piece.now))) }
-    ensures canonical { AllCanonical done.old.lines.items → OnOk result
-        (AllCanonical done.new.lines.items) }
-    ensures indexed { OnOk result (IsIndex (names_of done.new.lines.items) done.new.latest.pairs) }
+        (Agree (lines_of done.new)
+        (after_form (lines_of done.old) (form piece.now))) }
     ensures fault { IfErr result
-        (IsFirstFault (fault_in_form (names_of done.old.lines.items) line (form piece.now))) }
+        (IsFirstFault (fault_in_form (names_of done.old) line (form piece.now))) }
 {
     match read_line(piece) {
         LineForm::Comment => Ok(()),
@@ -212,15 +186,13 @@ fn add_line<'t>(
 }
 
 // The named lines of a text with their sets, or its first fault.
-#[tactic(auto, unfolding(crate::specs::Faults::first_fault, crate::specs::Truth::named))]
+#[tactic(auto, unfolding(crate::specs::Faults::first_fault, crate::specs::Truth::named_lines))]
 pub(crate) fn evaluate_lines<'t>(
     alloc: Global,
     text: &'t [u8],
 ) -> Result<NamedLines<'t>, AlgebraError>
     ensures fault_free { OnOk result (IsWellFormed text.now) }
-    ensures lines { IfOk result (λ done. Agree (lines_of done.lines.items) (named text.now)) }
-    ensures canonical { IfOk result (λ done. AllCanonical done.lines.items) }
-    ensures indexed { IfOk result (λ done. IsIndex (names_of done.lines.items) done.latest.pairs) }
+    ensures lines { IfOk result (λ done. Agree (lines_of done) (named_lines text.now)) }
     ensures fault { IfErr result (IsFirstFault (first_fault text.now)) }
 {
     let mut done = NamedLines::new(alloc);

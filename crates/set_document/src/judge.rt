@@ -1,20 +1,20 @@
 //! Judges a text, and gathers the numbers and ranges among its words.
 ghost use Rattle.std.specs.Prelude.{◌≡◌, ◌+◌, ◌≤◌, ◌<◌, [], ◌∷◌, ◌++◌, IfOk, IfErr, OnOk, option_map, option_copied, None};
-ghost use Rattle.set_document.specs.Compile.{known};
-ghost use Rattle.set_document.specs.Faults.{judge_word as judged, operator, fault_in_words, fault_in_form, names_after, first_fault, IsWellFormed, Depth};
+ghost use Rattle.set_document.specs.Faults.{judge_word, operator, fault_in_words, fault_in_form, names_after, first_fault, IsWellFormed, Depth};
 ghost use Rattle.set_document.specs.Literals.{literal, literals, literals_of_words, literals_of_form};
-ghost use Rattle.set_document.specs.Names.{IsIndex};
 ghost use Rattle.set_document.specs.Steps.{IsFault, IsFirstFault};
-ghost use Rattle.set_document.specs.Text.{words, form};
-ghost use Rattle.set_document.specs.Words.{shown};
+ghost use Rattle.text_lines.specs.Lines.{words};
+ghost use Rattle.set_document.specs.Text.{form};
+ghost use Rattle.set_document.specs.Words.{kind_of_word};
 ghost use Rattle.set_document.specs.declared.fault.AlgebraError.TheVariants as AlgebraError;
 
 use crate::fault::AlgebraError;
-use crate::line::{LineForm, cut_line, cut_piece, read_line};
+use crate::line::{LineForm, read_line};
 use crate::names::Names;
 use crate::word::{Word, read_word};
 use range_map::Range;
 use std::alloc::Global;
+use text_lines::{cut_line, cut_piece};
 
 // The number of sets after an operator that needs so many.
 fn judge_operator(
@@ -52,16 +52,15 @@ fn judge_word(
     depth: usize,
     found: Option<Word<'_>>,
 ) -> Result<usize, AlgebraError>
-    requires indexed { IsIndex (known names.now.list.items) names.now.latest.pairs }
     requires room { depth < usize.MAX }
     ensures depth { IfOk result (λ left.
-        judged (known names.now.list.items) line word depth (option_map shown found.entry)
+        judge_word names.now line word depth (option_map kind_of_word found.entry)
         ≡ Depth left) }
     ensures bound { IfOk result (λ left. left ≤ depth + 1) }
     ensures ranges { OnOk result
-        (ranges.new.items ≡ ranges.old.items ++ literal (option_map shown found.entry)) }
+        (ranges.new.items ≡ ranges.old.items ++ literal (option_map kind_of_word found.entry)) }
     ensures fault { IfErr result (IsFault
-        (judged (known names.now.list.items) line word depth (option_map shown found.entry))) }
+        (judge_word names.now line word depth (option_map kind_of_word found.entry))) }
 {
     match found {
         Some(Word::Number(n)) => {
@@ -95,14 +94,13 @@ fn judge_words(
     line: usize,
     rest: Option<&[u8]>,
 ) -> Result<(), AlgebraError>
-    requires indexed { IsIndex (known names.now.list.items) names.now.latest.pairs }
     ensures fault_free { OnOk result
-        (fault_in_words (known names.now.list.items) line 1 0 (words (option_copied rest.entry))
+        (fault_in_words names.now line 1 0 (words (option_copied rest.entry))
         ≡ None) }
     ensures ranges { OnOk result (ranges.new.items ≡ ranges.old.items
         ++ literals_of_words (words (option_copied rest.entry))) }
     ensures fault { IfErr result (IsFirstFault
-        (fault_in_words (known names.now.list.items) line 1 0
+        (fault_in_words names.now line 1 0
         (words (option_copied rest.entry)))) }
 {
     let mut left = rest;
@@ -127,17 +125,15 @@ fn judge_line<'t>(
     line: usize,
     piece: &'t [u8],
 ) -> Result<(), AlgebraError>
-    requires indexed { IsIndex (known names.old.list.items) names.old.latest.pairs }
     ensures fault_free { OnOk result
-        (fault_in_form (known names.old.list.items) line (form piece.now) ≡ None) }
+        (fault_in_form names.old line (form piece.now) ≡ None) }
     ensures names { OnOk result
-        (known names.new.list.items ≡ names_after (known names.old.list.items)
+        (names.new ≡ names_after names.old
         (form piece.now)) }
     ensures ranges { OnOk result
         (ranges.new.items ≡ ranges.old.items ++ literals_of_form (form piece.now)) }
-    ensures indexed { OnOk result (IsIndex (known names.new.list.items) names.new.latest.pairs) }
     ensures fault { IfErr result
-        (IsFirstFault (fault_in_form (known names.old.list.items) line (form piece.now))) }
+        (IsFirstFault (fault_in_form names.old line (form piece.now))) }
 {
     match read_line(piece) {
         LineForm::Comment => Ok(()),
@@ -150,7 +146,7 @@ fn judge_line<'t>(
     }
 }
 
-/// The numbers and ranges among the words of a text, in order, or its first fault.
+// The numbers and ranges among the words of a text, in order, or its first fault.
 #[tactic(auto, unfolding(crate::specs::Faults::first_fault))]
 pub(crate) fn judge(alloc: Global, text: &[u8]) -> Result<Vec<Range<i64>>, AlgebraError>
     ensures fault_free { OnOk result (IsWellFormed text.now) }

@@ -11,6 +11,7 @@ mod evaluator;
 mod fault;
 mod judge;
 pub mod laws;
+mod labels;
 mod line;
 mod named_lines;
 mod names;

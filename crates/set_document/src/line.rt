@@ -1,11 +1,10 @@
-//! Reads the lines of a document, and cuts a line into words.
-ghost use Rattle.std.specs.Prelude.{◌≡◌, ◌+◌, ◌<◌, ◌≤◌, ◌==◌, ◌∷◌, ◌++◌, length, List, Option, option_copied};
-ghost use Rattle.std.specs.List.{slice_split, prefix_len};
-ghost use Rattle.set_document.specs.Text.{lines, form, form_of_body, form_of_named, form_after, is_letter, is_name, words};
-ghost use Rattle.set_document.specs.Words.{shown_form};
-ghost use Rattle.set_document.specs.Steps.{left_len};
+//! Reads the lines of a document.
+ghost use Rattle.std.specs.Prelude.{◌≡◌, ◌≤◌, length, List, Option};
+ghost use Rattle.std.specs.List.{prefix_len};
+ghost use Rattle.set_document.specs.Text.{form, form_of_body, form_of_named, form_after, is_letter, is_name};
+ghost use Rattle.set_document.specs.Words.{form_of_line};
 
-use crate::word::{Name, first_place, is_letters};
+use crate::word::{Name, is_letters};
 
 /// The form of one line.
 #[derive(Clone, Copy, PartialEq, Eq, Debug)]
@@ -17,34 +16,6 @@ pub enum LineForm<'t> {
     Named(Name<'t>, Option<&'t [u8]>),
     /// Every other line.
     Bad,
-}
-
-// The first piece between single spaces, and what follows the space behind it.
-pub(crate) fn cut_piece<'t>(bytes: &'t [u8]) -> (&'t [u8], Option<&'t [u8]>)
-    ensures cut { slice_split (λ b. b == 32) bytes.now ≡ result.0.now ∷ words
-        (option_copied result.1) }
-    ensures shorter { left_len (option_copied result.1) ≤ length bytes.now }
-{
-    let at = first_place(bytes, b' ');
-    if at < bytes.len() {
-        (&bytes[..at], Some(&bytes[at + 1..]))
-    } else {
-        (bytes, None)
-    }
-}
-
-// The first line of a text, and what follows it.
-pub(crate) fn cut_line<'t>(text: &'t [u8]) -> (&'t [u8], &'t [u8])
-    requires { 0 < length text.now }
-    ensures lines { lines text.now ≡ result.0.now ∷ lines result.1.now }
-    ensures shorter { length result.1.now < length text.now }
-{
-    let at = first_place(text, b'\n');
-    if at < text.len() {
-        text.split_at(at + 1)
-    } else {
-        text.split_at(at)
-    }
 }
 
 // How many letters of `a` to `z` stand at the front.
@@ -66,7 +37,7 @@ fn is_name(piece: &[u8]) -> bool
 }
 
 fn read_after<'t>(name: &'t [u8], rest: &'t [u8]) -> LineForm<'t>
-    ensures { shown_form result ≡ form_after name.now rest.now }
+    ensures { form_of_line result ≡ form_after name.now rest.now }
 {
     match rest {
         [b':'] => LineForm::Named(Name::new(name), None),
@@ -76,7 +47,7 @@ fn read_after<'t>(name: &'t [u8], rest: &'t [u8]) -> LineForm<'t>
 }
 
 fn read_named<'t>(body: &'t [u8]) -> LineForm<'t>
-    ensures { shown_form result ≡ form_of_named body.now }
+    ensures { form_of_line result ≡ form_of_named body.now }
 {
     let (name, rest) = body.split_at(letters_len(body));
     if is_name(name) {
@@ -87,7 +58,7 @@ fn read_named<'t>(body: &'t [u8]) -> LineForm<'t>
 }
 
 fn read_body<'t>(body: &'t [u8]) -> LineForm<'t>
-    ensures { shown_form result ≡ form_of_body body.now }
+    ensures { form_of_line result ≡ form_of_body body.now }
 {
     match body {
         [b'#', ..] => LineForm::Comment,
@@ -95,13 +66,13 @@ fn read_body<'t>(body: &'t [u8]) -> LineForm<'t>
     }
 }
 
-/// The form of one line, given with its line feed where it has one. A name is one or more letters
-/// of `a` to `z`, and not `empty` or `full`. Any bytes may be handed in: what is no comment and no
-/// named line is bad.
+/// Returns the form of one line, given with its line feed where it has one. A name is one or more
+/// letters of `a` to `z`, and not `empty` or `full`. Any bytes may be handed in: what is no comment
+/// and no named line is bad.
 ///
-/// O(n) in the length of the name, and takes no memory.
+/// O(n) time in the length of the name, no memory.
 pub fn read_line<'t>(piece: &'t [u8]) -> LineForm<'t>
-    ensures { shown_form result ≡ form piece.now }
+    ensures { form_of_line result ≡ form piece.now }
 {
     match piece {
         [body @ .., b'\n'] => read_body(body),

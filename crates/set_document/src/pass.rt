@@ -2,28 +2,24 @@
 ghost use Rattle.std.specs.Prelude.{◌≡◌, ℕ, ◌+◌, ◌<◌, ◌≤◌, ◌++◌, ◌∷◌, [], ℤ, pos, ◌-ℤ◌, ◌<ℤ◌, int_lt, if◌then◌else◌, IfOk, OnOk, List, length, map};
 ghost use Rattle.std.specs.List.{AllByRecursion, filter};
 ghost use Rattle.cut_points.specs.Cuts.{IsAscending, cuts_alone, from_cuts as list_from_cuts};
-ghost use Rattle.set_document.specs.Answer.{listed};
-ghost use Rattle.set_document.specs.Compile.{known};
-ghost use Rattle.set_document.specs.Lines.{names_of, shown_lines};
+ghost use Rattle.set_document.specs.Answer.{line_lists};
+ghost use Rattle.set_document.specs.Lines.{line_lists_of, names_of, AllCanonical};
 ghost use Rattle.set_document.specs.Literals.{literal_cuts};
-ghost use Rattle.set_document.specs.Names.{IsIndex};
 ghost use Rattle.set_document.specs.Numbers.{least, greatest};
-ghost use Rattle.set_document.specs.Table.{names, rows as text_rows};
+ghost use Rattle.set_document.specs.Table.{rows as text_rows};
 ghost use Rattle.set_document.specs.Tabled.{table_rows};
-ghost use Rattle.set_document.specs.Visits.{IsWalk, closed, first_closed, firsts};
-ghost use Rattle.set_document.specs.Words.{letters};
+ghost use Rattle.set_document.specs.Visits.{IsWalk, rows_with_ends, numbers_of_first, firsts};
+ghost use Rattle.set_document.specs.Words.{letters_of};
 ghost use Rattle.truth_blocks.specs.Notes.{states};
 ghost use Rattle.truth_blocks.specs.Rows.{rows_of};
 
 use crate::compile::{Program, compile};
 use crate::named_lines::{Line, NamedLines};
-use crate::names::Names;
 use crate::table::TableRow;
 use crate::word::Name;
 use cut_points::{all_cuts, from_cut_slice};
 use element_core::NoMemory;
 use range_map::{Range, RangeSet};
-use sorted_vector_map::SortedVectorMap;
 use std::alloc::Global;
 use std::mem;
 use truth_blocks::{Noted, Pass, Row, one_pass};
@@ -63,7 +59,7 @@ fn with_least(alloc: Global, cuts: &[i64]) -> Result<Vec<i64>, NoMemory>
     Ok(visited)
 }
 
-/// The numbers to visit: the least one, and each cut above it of one of the ranges taken alone.
+// The numbers to visit: the least one, and each cut above it of one of the ranges taken alone.
 pub(crate) fn numbers_to_visit(alloc: Global, ranges: &[Range<i64>]) -> Result<Vec<i64>, NoMemory>
     ensures { IfOk result
         (λ visited. IsWalk least greatest (cuts_alone greatest ranges.now) visited.items) }
@@ -90,9 +86,11 @@ fn lines_from<'t>(
 ) -> Result<Vec<Line<'t>>, NoMemory>
     requires each { length names.now ≡ length notes.items }
     requires ascending { AllByRecursion (λ n. IsAscending least greatest n.1) (states notes.items) }
-    ensures names { IfOk result (λ lines. names_of lines.items ≡ known names.now) }
+    ensures names { IfOk result
+        (λ lines. names_of (line_lists_of lines.items) ≡ letters_of names.now) }
     ensures sets { IfOk result (λ lines. map (λ l. l.set) lines.items
         ≡ map (λ n. list_from_cuts greatest n.1) (states notes.items)) }
+    ensures canonical { IfOk result (λ lines. AllCanonical (line_lists_of lines.items)) }
 {
     let mut left = notes;
     let mut lines = Vec::with_capacity(alloc, left.len())?;
@@ -100,27 +98,10 @@ fn lines_from<'t>(
     while i < left.len() {
         let numbers = mem::replace(&mut left[i].numbers, Vec::new(alloc));
         let set = set_of_numbers(alloc, &numbers)?;
-        lines.push(Line {
-            name: names[i],
-            set,
-        })?;
+        lines.push(Line::new(names[i], set))?;
         i += 1;
     }
     Ok(lines)
-}
-
-// For each distinct name, in order, the place of its last line.
-fn shown_of(
-    alloc: Global,
-    latest: &SortedVectorMap<Name<'_>, usize>,
-) -> Result<Vec<usize>, NoMemory>
-    ensures { IfOk result (λ shown. shown.items ≡ map (λ p. p.1) latest.now.pairs) }
-{
-    let mut shown = Vec::with_capacity(alloc, latest.len())?;
-    for (_, place) in latest {
-        shown.push(*place)?;
-    }
-    Ok(shown)
 }
 
 // The numbers from the first to the one before `next`.
@@ -143,7 +124,7 @@ fn range_from(first: i64) -> Range<i64>
 // The numbers of the first of these rows.
 fn closed_range(rows: &[Row]) -> Range<i64>
     requires { IsAscending least greatest (firsts (rows_of rows.now)) }
-    ensures { 0 < length rows.now → result ≡ first_closed greatest (rows_of rows.now) }
+    ensures { 0 < length rows.now → result ≡ numbers_of_first greatest (rows_of rows.now) }
 {
     match rows {
         [row, next, ..] => range_before(row.first, next.first),
@@ -155,41 +136,35 @@ fn closed_range(rows: &[Row]) -> Range<i64>
 // The rows with their last numbers.
 fn close_rows(alloc: Global, rows: Vec<Row>) -> Result<Vec<TableRow>, NoMemory>
     requires { IsAscending least greatest (firsts (rows_of rows.items)) }
-    ensures { IfOk result (λ done. table_rows done.items ≡ closed greatest (rows_of rows.items)) }
+    ensures { IfOk result
+        (λ done. table_rows done.items ≡ rows_with_ends greatest (rows_of rows.items)) }
 {
     let mut left = rows;
     let mut done = Vec::with_capacity(alloc, left.len())?;
     let mut i = 0;
     while i < left.len() {
         let numbers = closed_range(&left[i..]);
-        let held = mem::replace(&mut left[i].held, Vec::new(alloc));
-        done.push(TableRow { numbers, held })?;
+        let names = mem::replace(&mut left[i].held, Vec::new(alloc));
+        done.push(TableRow { numbers, names })?;
         i += 1;
     }
     Ok(done)
 }
 
-/// The named lines and the rows of a text, by one pass over these numbers.
+// The named lines and the rows of a text, by one pass over these numbers.
 pub(crate) fn pass_over<'t>(
     alloc: Global,
     text: &'t [u8],
     visited: &[i64],
 ) -> Result<(NamedLines<'t>, Vec<TableRow>), NoMemory>
     requires { IsWalk least greatest (literal_cuts text.now) visited.now }
-    ensures lines { IfOk result (λ p. shown_lines p.0.lines.items ≡ listed text.now) }
-    ensures indexed { IfOk result (λ p. IsIndex (names_of p.0.lines.items) p.0.latest.pairs) }
-    ensures names { IfOk result (λ p. map (λ l. letters l.0) p.0.latest.pairs ≡ names text.now) }
+    ensures lines { IfOk result (λ p. p.0 ≡ line_lists text.now) }
     ensures rows { IfOk result (λ p. table_rows p.1.items ≡ text_rows text.now) }
 {
     let Program { lines, names } = compile(alloc, text, visited)?;
-    let Names { list, latest } = names;
-    let shown = shown_of(alloc, &latest)?;
-    let Pass { notes, rows } = one_pass(alloc, visited, &lines, &shown)?;
-    let done = lines_from(alloc, &list, notes)?;
+    let places = names.last_places(alloc)?;
+    let Pass { notes, rows } = one_pass(alloc, visited, &lines, &places)?;
+    let done = lines_from(alloc, names.as_slice(), notes)?;
     let table = close_rows(alloc, rows)?;
-    let named = NamedLines {
-        lines: done,
-        latest,
-    };
-    Ok((named, table))
+    Ok((NamedLines::with_names(done, names), table))
 }

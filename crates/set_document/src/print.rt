@@ -1,16 +1,16 @@
 //! Writes sets and rows in the form of a document.
-ghost use Rattle.std.specs.Prelude.{◌≡◌, ◌++◌, ℤ, OnOk, map};
+ghost use Rattle.std.specs.Prelude.{◌≡◌, ◌++◌, ℕ, ℤ, List, OnOk};
 ghost use Rattle.set_document.specs.Words.{letters};
-ghost use Rattle.set_document.specs.Answer.{range_text, further_text, list_text, line_text, lines_text, name_text, row_text, rows_text};
-ghost use Rattle.set_document.specs.Lines.{shown_lines};
+ghost use Rattle.set_document.specs.Answer.{range_text, further_text, list_text, line_text, lines_text, row_text, rows_text};
+ghost use Rattle.set_document.specs.Labels.{HasLabels};
+ghost use Rattle.set_document.specs.Lines.{line_lists_of};
 ghost use Rattle.set_document.specs.Tabled.{table_rows};
 
+use crate::labels::{Labels, names_len, push_names};
 use crate::named_lines::Line;
 use crate::table::TableRow;
-use crate::word::Name;
 use element_core::NoMemory;
 use range_map::{Range, RangeIter, RangeSet};
-use sorted_vector_map::SortedVectorMap;
 use std::io::Write;
 
 // Writes a range as `1..=5`.
@@ -59,7 +59,7 @@ pub(crate) fn push_line(out: &mut Vec<u8>, line: &Line<'_>) -> Result<(), NoMemo
 
 // Writes the lines in order.
 pub(crate) fn push_lines(out: &mut Vec<u8>, lines: &[Line<'_>]) -> Result<(), NoMemory>
-    ensures { OnOk result (out.new.items ≡ out.old.items ++ lines_text (shown_lines lines.now)) }
+    ensures { OnOk result (out.new.items ≡ out.old.items ++ lines_text (line_lists_of lines.now)) }
 {
     for line in lines {
         push_line(out, line)?;
@@ -67,40 +67,19 @@ pub(crate) fn push_lines(out: &mut Vec<u8>, lines: &[Line<'_>]) -> Result<(), No
     Ok(())
 }
 
-// Writes the name at a position, after a space.
-fn push_name(
-    out: &mut Vec<u8>,
-    names: &SortedVectorMap<Name<'_>, usize>,
-    position: usize,
-) -> Result<(), NoMemory>
-    ensures { OnOk result
-        (out.new.items ≡ out.old.items ++ name_text
-        (map (λ p. letters p.0) names.now.pairs) position) }
-{
-    let Some((name, _)) = names.get_key_value_at_index(position) else {
-        return Ok(());
-    };
-    out.extend_from_slice(b" ")?;
-    out.extend_from_slice(name.as_bytes())?;
-    Ok(())
-}
-
 // Writes a row: its numbers, and the names that hold there.
 fn push_row(
     out: &mut Vec<u8>,
-    names: &SortedVectorMap<Name<'_>, usize>,
+    labels: &Labels,
     range: &Range<i64>,
-    held: &[usize],
+    indices: &[usize],
 ) -> Result<(), NoMemory>
-    ensures { OnOk result
-        (out.new.items ≡ out.old.items ++ row_text (map (λ p. letters p.0) names.now.pairs)
-        (range.now, held.now)) }
+    ensures { (names : List (List ℕ)) → HasLabels names labels.now → OnOk result
+        (out.new.items ≡ out.old.items ++ row_text names (range.now, indices.now)) }
 {
     out.extend_from_slice(b"# ")?;
     push_range(out, range)?;
-    for position in held {
-        push_name(out, names, *position)?;
-    }
+    push_names(out, labels, indices)?;
     out.extend_from_slice(b"\n")?;
     Ok(())
 }
@@ -108,15 +87,14 @@ fn push_row(
 // Writes the rows in order.
 pub(crate) fn push_rows(
     out: &mut Vec<u8>,
-    names: &SortedVectorMap<Name<'_>, usize>,
+    labels: &Labels,
     rows: &[TableRow],
 ) -> Result<(), NoMemory>
-    ensures { OnOk result
-        (out.new.items ≡ out.old.items ++ rows_text (map (λ p. letters p.0) names.now.pairs)
-        (table_rows rows.now)) }
+    ensures { (names : List (List ℕ)) → HasLabels names labels.now → OnOk result
+        (out.new.items ≡ out.old.items ++ rows_text names (table_rows rows.now)) }
 {
     for row in rows {
-        push_row(out, names, &row.numbers, &row.held)?;
+        push_row(out, labels, &row.numbers, &row.names)?;
     }
     Ok(())
 }
@@ -151,21 +129,15 @@ fn line_len(line: &Line<'_>) -> usize {
 }
 
 // How many bytes a row takes, or a few more.
-fn row_len(names: &SortedVectorMap<Name<'_>, usize>, row: &TableRow) -> usize {
-    let mut total = range_len(&row.numbers);
-    for position in &row.held {
-        if let Some((name, _)) = names.get_key_value_at_index(*position) {
-            total = total.saturating_add(name.as_bytes().len().saturating_add(1));
-        }
-    }
-    total
+fn row_len(labels: &Labels, row: &TableRow) -> usize {
+    range_len(&row.numbers).saturating_add(names_len(labels, &row.names))
 }
 
 // Room for the bytes of lines and rows. It spares that the bytes are moved as they grow, and no
 // more.
 pub(crate) fn room_for(
     lines: &[Line<'_>],
-    names: &SortedVectorMap<Name<'_>, usize>,
+    labels: &Labels,
     rows: &[TableRow],
 ) -> usize {
     let mut total: usize = 0;
@@ -173,7 +145,7 @@ pub(crate) fn room_for(
         total = total.saturating_add(line_len(line));
     }
     for row in rows {
-        total = total.saturating_add(row_len(names, row));
+        total = total.saturating_add(row_len(labels, row));
     }
     total
 }

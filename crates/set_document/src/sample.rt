@@ -63,11 +63,12 @@ fn push_sample_line(out: &mut Vec<u8>, place: usize) -> Result<(), NoMemory>
     Ok(())
 }
 
-/// A text of so many lines without a fault, to try the program on: line k, from 0, is a name of
-/// three letters and the range from 10k to 10k + 25, which most lines join with the line before.
+/// Returns a text of so many lines without a fault, to try the program on: line k, from 0, is a
+/// name of three letters and the range from 10k to 10k + 25, which most lines join with the line
+/// before.
 /// `sample_text(alloc, 2)` is `aaa: 0..=25` and `aab: 10..=35 aaa |`, each with a line feed.
 ///
-/// O(n) in the number of lines.
+/// O(n) time and memory in the number of lines.
 pub fn sample_text(alloc: Global, lines: usize) -> Result<Vec<u8>, NoMemory>
     requires { lines ≤ 1000 }
     ensures text { IfOk result (λ bytes. bytes.items ≡ sample lines) }

@@ -3,7 +3,7 @@ use crate::{AlgebraError, evaluate, evaluate_document};
 use std::alloc::Global;
 use std::process::Abort;
 
-/// Each text gives the whole answer that stands beside it.
+// Each text gives the whole answer that stands beside it.
 fn all_answer(rt: &impl Abort, alloc: Global, cases: &[(&str, &str)]) -> Result<(), AlgebraError> {
     for (text, wanted) in cases {
         let got = evaluate_document(alloc, text.as_bytes())?;

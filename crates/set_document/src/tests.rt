@@ -8,11 +8,11 @@ use std::alloc::Global;
 use std::process::Abort;
 use std::test::Fail;
 
-/// How each table begins: at the least number.
+// How each table begins: at the least number.
 const TABLE: &[u8] = b"# -9223372036854775808..=";
 
-/// What is written for a text without its table: its list lines, or its first fault and a line
-/// feed.
+// What is written for a text without its table: its list lines, or its first fault and a line
+// feed.
 fn lists_of(rt: &impl Abort, alloc: Global, text: &[u8]) -> Result<Vec<u8>, AlgebraError> {
     let mut bytes = match evaluate_document(alloc, text) {
         Ok(bytes) => bytes,
@@ -26,7 +26,7 @@ fn lists_of(rt: &impl Abort, alloc: Global, text: &[u8]) -> Result<Vec<u8>, Alge
     Ok(bytes)
 }
 
-/// Each text gives the lists, or the fault, that stand beside it.
+// Each text gives the lists, or the fault, that stand beside it.
 fn all_give(rt: &impl Abort, alloc: Global, cases: &[(&str, &str)]) -> Result<(), AlgebraError> {
     for (text, wanted) in cases {
         let got = lists_of(rt, alloc, text.as_bytes())?;
@@ -294,7 +294,7 @@ fn an_answer_is_read_by_its_indices(rt: HostRuntime) -> Result<(), AlgebraError>
     Ok(())
 }
 
-/// The ends of a text's numbers and ranges.
+// The ends of a text's numbers and ranges.
 fn literals_of(alloc: Global, text: &[u8]) -> Result<Vec<i64>, NoMemory> {
     let mut literals = Vec::new(alloc);
     for line in text.split(|b| *b == b'\n') {
@@ -312,7 +312,7 @@ fn literals_of(alloc: Global, text: &[u8]) -> Result<Vec<i64>, NoMemory> {
     Ok(literals)
 }
 
-/// At `x` each line's set says what the plain reading says.
+// At `x` each line's set says what the plain reading says.
 fn agrees_at(rt: &impl Abort, alloc: Global, text: &[u8], x: i64) -> Result<(), AlgebraError> {
     let answer = evaluate(alloc, text)?;
     let truths = truths_at(alloc, text, x)?;

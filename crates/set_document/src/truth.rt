@@ -1,16 +1,17 @@
 //! The plain reading of a document's meaning, one number at a time. Tests compare every evaluator
 //! with it.
 ghost use Rattle.std.specs.Prelude.{◌≡◌, ◌<◌, ◌++◌, ◌∷◌, [], IfOk, OnOk, MatchOption, length, reverse, map, List, option_map, option_copied};
-ghost use Rattle.set_document.specs.Text.{words};
-ghost use Rattle.set_document.specs.Truth.{at, named, latest, after_word, after_words};
+ghost use Rattle.text_lines.specs.Lines.{words};
+ghost use Rattle.set_document.specs.Truth.{at, named_lines, latest, after_word, after_words};
 ghost use Rattle.truth_blocks.specs.Stack.{last_value};
-ghost use Rattle.set_document.specs.Words.{letters, shown};
+ghost use Rattle.set_document.specs.Words.{letters, kind_of_word};
 ghost use Rattle.set_document.specs.Lines.{pairs_of};
 
-use crate::line::{LineForm, cut_line, cut_piece, read_line};
+use crate::line::{LineForm, read_line};
 use crate::word::{Name, Word, read_word};
 use element_core::NoMemory;
 use std::alloc::Global;
+use text_lines::{cut_line, cut_piece};
 
 // A named line, and what it gives at the number in question.
 #[derive(Clone, Copy)]
@@ -62,7 +63,7 @@ fn apply_word(
 ) -> Result<(), NoMemory>
     ensures { OnOk result
         (reverse values.new.items ≡ after_word (pairs_of done.now) x (reverse values.old.items)
-        (option_map shown found.entry)) }
+        (option_map kind_of_word found.entry)) }
 {
     match found {
         None => Ok(()),
@@ -120,7 +121,7 @@ fn line_truth(
 
 // The named lines of a text, and what each gives at x.
 fn known_lines<'t>(alloc: Global, text: &'t [u8], x: i64) -> Result<Vec<Known<'t>>, NoMemory>
-    ensures { IfOk result (λ done. pairs_of done.items ≡ at (named text.now) x) }
+    ensures { IfOk result (λ done. pairs_of done.items ≡ at (named_lines text.now) x) }
 {
     let mut done: Vec<Known<'t>> = Vec::new(alloc);
     let mut rest = text;
@@ -141,13 +142,13 @@ fn values_of(alloc: Global, done: &[Known<'_>]) -> Result<Vec<bool>, NoMemory>
     Ok(done.iter().map(|known| known.value).collect(alloc)?)
 }
 
-/// Whether each named line of a text is true at `x`, in the order of the lines.
+/// Returns whether each named line of a text is true at `x`, in the order of the lines.
 ///
 /// It follows the definition word by word, for this one number, and judges nothing: a faulty text
-/// has an answer too. O(n) in the bytes of the text, times the number of lines where names are
-/// looked up.
+/// has an answer too. O(n) time in the bytes of the text, times the number of lines where names are
+/// looked up, and memory for a value a line.
 pub fn truths_at(alloc: Global, text: &[u8], x: i64) -> Result<Vec<bool>, NoMemory>
-    ensures { IfOk result (λ truths. truths.items ≡ map (λ l. l.1) (at (named text.now) x)) }
+    ensures { IfOk result (λ truths. truths.items ≡ map (λ l. l.1) (at (named_lines text.now) x)) }
 {
     let done = known_lines(alloc, text, x)?;
     let truths = values_of(alloc, &done)?;

@@ -1,10 +1,10 @@
 //! Reads the words of a document.
-ghost use Rattle.std.specs.Prelude.{◌≡◌, ◌≤◌, ◌==◌, length, List, Option, option_map, bytes_eq};
-ghost use Rattle.std.specs.List.{position_or_len, list_all};
+ghost use Rattle.std.specs.Prelude.{◌≡◌, List, Option, option_map};
 ghost use Rattle.set_document.specs.Text.{kind, is_letters, is_letter, span, span_from};
-ghost use Rattle.set_document.specs.Words.{letters, shown};
+ghost use Rattle.set_document.specs.Words.{letters, kind_of_word};
 
 use crate::number::read_number;
+use text_lines::first_place;
 
 /// A name of a document: a borrowed part of its text, one or more letters of `a` to `z`. Names are
 /// ordered by their bytes, and a name comes before each longer one that begins with it.
@@ -20,7 +20,7 @@ impl<'t> Name<'t> {
         Name { bytes }
     }
 
-    /// The letters of the name.
+    /// Returns the letters of the name. O(1) time, no memory.
     pub fn as_bytes(&self) -> &'t [u8]
         ensures { result.now ≡ letters self.now }
     {
@@ -54,18 +54,6 @@ pub enum Word<'t> {
     Xor,
 }
 
-// Where a byte first stands in a piece, or the piece's length.
-pub(crate) fn first_place(piece: &[u8], byte: u8) -> usize
-    ensures place { result ≡ position_or_len (λ c. c == byte) piece.now }
-    ensures bound { result ≤ length piece.now }
-{
-    let mut at = 0;
-    while at < piece.len() && piece[at] != byte {
-        at += 1;
-    }
-    at
-}
-
 // Whether the piece is one letter of `a` to `z` or more.
 pub(crate) fn is_letters(piece: &[u8]) -> bool
     ensures { result ≡ is_letters piece.now }
@@ -79,7 +67,7 @@ pub(crate) fn is_letters(piece: &[u8]) -> bool
 }
 
 fn span_of<'t>(start: Option<i64>, end: Option<i64>) -> Option<Word<'t>>
-    ensures { option_map shown result ≡ span_from start end }
+    ensures { option_map kind_of_word result ≡ span_from start end }
 {
     match (start, end) {
         (Some(s), Some(e)) => Some(Word::Span(s, e)),
@@ -88,7 +76,7 @@ fn span_of<'t>(start: Option<i64>, end: Option<i64>) -> Option<Word<'t>>
 }
 
 fn read_span<'t>(piece: &'t [u8]) -> Option<Word<'t>>
-    ensures { option_map shown result ≡ span piece.now }
+    ensures { option_map kind_of_word result ≡ span piece.now }
 {
     let (start, rest) = piece.split_at(first_place(piece, b'.'));
     match rest {
@@ -97,13 +85,13 @@ fn read_span<'t>(piece: &'t [u8]) -> Option<Word<'t>>
     }
 }
 
-/// The word that a piece between spaces writes, or `None` where it is no word.
+/// Returns the word that a piece between spaces writes, or `None` where it is no word.
 ///
 /// A number is `0`, or an optional `-`, a digit 1 to 9 and further digits, and fits an `i64`; a
 /// span is two numbers with `..=` between them. Letters of `a` to `z` alone are a name, but for
-/// `empty` and `full`. O(n), and takes no memory.
+/// `empty` and `full`. O(n) time, no memory.
 pub fn read_word<'t>(piece: &'t [u8]) -> Option<Word<'t>>
-    ensures { option_map shown result ≡ kind piece.now }
+    ensures { option_map kind_of_word result ≡ kind piece.now }
 {
     if piece == b"empty".as_slice() {
         Some(Word::Empty)

@@ -1,7 +1,7 @@
 //! From a number of lines to the counts of a sample's answer, which the sink gets.
 ghost use Rattle.std.specs.Prelude.{◌≡◌, ◌≤◌, true, IfOk, length, sum_by};
 ghost use Rattle.std.specs.Io.KnownBytes.{Appends};
-ghost use Rattle.set_document.specs.Answer.{printed};
+ghost use Rattle.set_document.specs.Answer.{shape_text};
 ghost use Rattle.set_document.specs.Sample.{counts_text, summary};
 ghost use Rattle.set_program.specs.Counts.{Rose, NotRose};
 ghost use Rattle.set_program.specs.Devices.{AppendsPrefix};
@@ -19,7 +19,7 @@ use std::io::Write;
 // their number is exact.
 #[tactic(auto, using(set_document::proofs::CountLemmas::runs_below_bytes))]
 fn ranges_of(answer: &Answer<'_>, bytes: &[u8]) -> usize
-    requires { bytes.now ≡ printed answer.now }
+    requires { bytes.now ≡ shape_text answer.now }
     ensures { result ≡ sum_by (λ l. length l.1) answer.now.lines }
 {
     let _most = bytes.len();
@@ -29,7 +29,7 @@ fn ranges_of(answer: &Answer<'_>, bytes: &[u8]) -> usize
 // The line that tells how many named lines, ranges and rows an answer has, and how many bytes it is
 // printed in.
 fn counts_of(alloc: Global, answer: &Answer<'_>, bytes: &[u8]) -> Result<Vec<u8>, NoMemory>
-    requires { bytes.now ≡ printed answer.now }
+    requires { bytes.now ≡ shape_text answer.now }
     ensures { IfOk result (λ line. line.items ≡ counts_text answer.now) }
 {
     let mut line = Vec::new(alloc);

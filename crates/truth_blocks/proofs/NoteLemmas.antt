@@ -9,7 +9,7 @@ use Rattle.std.proofs.lemmas.Bool.Decides.{nat_tests}
 use Rattle.number_line.specs.Ranges.{xor}
 use Rattle.number_line.specs.Segments.{same_bool}
 use Rattle.truth_blocks.specs.Blocks.{is_one}
-use Rattle.truth_blocks.specs.Notes.{is_change, picked, note, note_from}
+use Rattle.truth_blocks.specs.Notes.{is_change, items_at_ones, note, note_from}
 use Rattle.truth_blocks.proofs.BitLemmas.{one_or, one_xor, one_none}
 use mir.Val.{bool_byte}
 
@@ -62,17 +62,17 @@ change_bit w before (suc i) p =
 
 -- ---- what is picked
 
-pub picked_none : {A : Type 0} (w p : ℕ) (xs : List A) → ((i : ℕ) → p ≤ i → i < p + length xs → is_one w i ≡ false) → picked w p xs ≡ []
+pub picked_none : {A : Type 0} (w p : ℕ) (xs : List A) → ((i : ℕ) → p ≤ i → i < p + length xs → is_one w i ≡ false) → items_at_ones w p xs ≡ []
 picked_none w p [] h = refl
 picked_none w p (x ∷ xs) h = rw (h p (omega arith) (omega arith)) (picked_none w (p + 1) xs (λ i q r. h i (omega arith) (omega arith)))
 
-pub picked_alike : {A : Type 0} (w v p : ℕ) (xs : List A) → ((i : ℕ) → p ≤ i → i < p + length xs → is_one w i ≡ is_one v i) → picked w p xs ≡ picked v p xs
+pub picked_alike : {A : Type 0} (w v p : ℕ) (xs : List A) → ((i : ℕ) → p ≤ i → i < p + length xs → is_one w i ≡ is_one v i) → items_at_ones w p xs ≡ items_at_ones v p xs
 picked_alike w v p [] h = refl
 picked_alike w v p (x ∷ xs) h = rw (h p (omega arith) (omega arith), picked_alike w v (p + 1) xs (λ i q r. h i (omega arith) (omega arith))) refl
 
 -- the first one is at t, which is j places from p on; v is w without it
 pub picked_first : {A : Type 0} (o : A) (w v p j t : ℕ) (xs : List A) → t ≡ p + j → j < length xs → is_one w t ≡ true → ((i : ℕ) → i < t → is_one w i ≡ false)
-    → is_one v t ≡ false → ((i : ℕ) → i < p + length xs → i ≢ t → is_one v i ≡ is_one w i) → picked w p xs ≡ get_or xs j o ∷ picked v p xs
+    → is_one v t ≡ false → ((i : ℕ) → i < p + length xs → i ≢ t → is_one v i ≡ is_one w i) → items_at_ones w p xs ≡ get_or xs j o ∷ items_at_ones v p xs
 picked_first o w v p j t [] z k one before none other = absurd (omega arith)
 picked_first o w v p zero t (x ∷ xs) z k one before none other =
     let q : t ≡ p = omega arith in
@@ -103,14 +103,14 @@ noted_turn false true ns more x = append_assoc ns (x ∷ []) more
 noted_turn false false ns more x = refl
 
 pub notes_are_picked : (w c p : ℕ) (before b : Bool) (ns xs : List ℤ) → b ≡ value_before w before p → p + length xs ≤ 64 → ((i : ℕ) → i < 64 → is_one c i ≡ is_change w before i)
-    → (note_from (is_one w) p (b, ns) xs).1 ≡ ns ++ picked c p xs
+    → (note_from (is_one w) p (b, ns) xs).1 ≡ ns ++ items_at_ones c p xs
 notes_are_picked w c p before b ns [] e k h = sym (append-nil ns)
 notes_are_picked w c p before b ns (x ∷ xs) e k h =
     let d : (p + 1) - 1 ≡ p = omega arith in
     let here : is_one c p ≡ xor (is_one w p) b = h p (omega arith) ∙ ap (xor (is_one w p)) (sym e) in
     let next : is_one w p ≡ value_before w before (p + 1) = let z : (p + 1 == 0) ≡ false = grind (arith, nat_tests) in rw (z, d) refl in
     rw here (notes_are_picked w c (p + 1) before (is_one w p) (if same_bool b (is_one w p) then ns else ns ++ x ∷ []) xs next (omega arith) h
-    ∙ noted_turn b (is_one w p) ns (picked c (p + 1) xs) x)
+    ∙ noted_turn b (is_one w p) ns (items_at_ones c (p + 1) xs) x)
 
 -- the value is that at the last place
 pub value_is_last : (f : ℕ → Bool) (p : ℕ) (s : Bool × List ℤ) (x : ℤ) (xs : List ℤ) → (note_from f p s (x ∷ xs)).0 ≡ f (p + length xs)
@@ -125,10 +125,10 @@ bit_test w i = rw (shr_and_one w i) refl
 
 -- the notes of a line after a block, as the program makes them
 pub notes_of_block : (w c : ℕ) (before : Bool) (ns block : List ℤ) → 0 < length block → length block ≤ 64 → ((i : ℕ) → i < 64 → is_one c i ≡ is_change w before i)
-    → note_from (is_one w) 0 (before, ns) block ≡ (bit_and (w / 2 ^ (length block - 1)) 1 == 1, ns ++ picked c 0 block)
+    → note_from (is_one w) 0 (before, ns) block ≡ (bit_and (w / 2 ^ (length block - 1)) 1 == 1, ns ++ items_at_ones c 0 block)
 notes_of_block w c before ns [] a b h = absurd (omega arith)
 notes_of_block w c before ns (x ∷ xs) a b h =
-    pair (note_from (is_one w) 0 (before, ns) (x ∷ xs)) (bit_and (w / 2 ^ (length (x ∷ xs) - 1)) 1 == 1) (ns ++ picked c 0 (x ∷ xs))
+    pair (note_from (is_one w) 0 (before, ns) (x ∷ xs)) (bit_and (w / 2 ^ (length (x ∷ xs) - 1)) 1 == 1) (ns ++ items_at_ones c 0 (x ∷ xs))
     (value_is_last (is_one w) 0 (before, ns) x xs ∙ (ap (is_one w) d ∙ bit_test w (length (x ∷ xs) - 1)))
     (notes_are_picked w c 0 before before ns (x ∷ xs) refl (omega arith) h)
   where
@@ -140,7 +140,7 @@ notes_of_block w c before ns (x ∷ xs) a b h =
 
 -- ---- the walk over the ones of a word
 
-pub none_left : {A : Type 0} (block : List A) → picked 0 0 block ≡ []
+pub none_left : {A : Type 0} (block : List A) → items_at_ones 0 0 block ≡ []
 none_left block = picked_none 0 0 block (λ i a b. one_none i)
 
 -- a word without its lowest one
@@ -160,14 +160,14 @@ unfolding is_one
 stays w t i p q d = rw (bit_at_clear_other w64 w t p i q d) refl
 
 pub picked_lowest : {A : Type 0} (o : A) (w : ℕ) (block : List A) → 0 < w → w < 2 ^ 64 → length block ≤ 64 → trailing_zeros w64 w < length block
-    → picked w 0 block ≡ get_or block (trailing_zeros w64 w) o ∷ picked (without w (trailing_zeros w64 w)) 0 block
+    → items_at_ones w 0 block ≡ get_or block (trailing_zeros w64 w) o ∷ items_at_ones (without w (trailing_zeros w64 w)) 0 block
 picked_lowest o w block a b k less =
     let t = trailing_zeros w64 w in
     let z = lowest w a b in
     picked_first o w (without w t) 0 t t block (omega arith) less z.0 z.1 (gone w t z.2) (λ i p d. stays w t i z.2 (omega arith) d)
 
 -- none is left where the lowest one lies past the block
-pub none_within : {A : Type 0} (w : ℕ) (block : List A) → 0 < w → w < 2 ^ 64 → length block ≤ trailing_zeros w64 w → picked w 0 block ≡ []
+pub none_within : {A : Type 0} (w : ℕ) (block : List A) → 0 < w → w < 2 ^ 64 → length block ≤ trailing_zeros w64 w → items_at_ones w 0 block ≡ []
 none_within w block a b more = picked_none w 0 block (λ i p q. (lowest w a b).1 i (omega arith))
 
 pub fewer : (w : ℕ) → 0 < w → w < 2 ^ 64 → without w (trailing_zeros w64 w) < w

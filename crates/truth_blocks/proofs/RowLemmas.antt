@@ -8,10 +8,10 @@ use Rattle.std.specs.Cmp.Lexicographic.{pointwise}
 use Rattle.std.proofs.lemmas.Bool.Decides.{nat_tests}
 use Rattle.number_line.specs.Ranges.{xor}
 use Rattle.truth_blocks.specs.Blocks.{is_one, bits}
-use Rattle.truth_blocks.specs.Notes.{picked, is_change}
+use Rattle.truth_blocks.specs.Notes.{items_at_ones, is_change}
 use Rattle.truth_blocks.proofs.BitLemmas.{one_none, one_or}
 use Rattle.truth_blocks.proofs.NoteLemmas.{one_byte_first, one_byte_above}
-use Rattle.truth_blocks.specs.Rows.{held_from, labelled, begins, rows_from, starts}
+use Rattle.truth_blocks.specs.Rows.{places_of_true, numbers_with_labels, begins, rows_from, starts}
 
 -- whether one of these lines has different values in the two lists
 abbrev pub differ_at : List Bool → List Bool → List ℕ → Bool
@@ -21,55 +21,55 @@ nat_same : (n : ℕ) → nat_eq n n ≡ true
 nat_same n = grind (arith, nat_tests)
 
 -- a list of later places doesn't begin with n
-later : (vs : List Bool) (n m : ℕ) (shown : List ℕ) (xs : List ℕ) → n < m → pointwise nat_eq (n ∷ xs) (held_from vs m shown) ≡ false
+later : (vs : List Bool) (n m : ℕ) (shown : List ℕ) (xs : List ℕ) → n < m → pointwise nat_eq (n ∷ xs) (places_of_true vs m shown) ≡ false
 later vs n m [] xs k = refl
 later vs n m (line ∷ rest) xs k = at (get_or vs line false) (later vs n (m + 1) rest xs (omega arith))
   where
     no : nat_eq n m ≡ false
     no = grind (arith, nat_tests)
 
-    at : (b : Bool) → pointwise nat_eq (n ∷ xs) (held_from vs (m + 1) rest) ≡ false → pointwise nat_eq (n ∷ xs) (if b then m ∷ held_from vs (m + 1) rest else held_from vs (m + 1) rest) ≡ false
+    at : (b : Bool) → pointwise nat_eq (n ∷ xs) (places_of_true vs (m + 1) rest) ≡ false → pointwise nat_eq (n ∷ xs) (if b then m ∷ places_of_true vs (m + 1) rest else places_of_true vs (m + 1) rest) ≡ false
     at true ih = rw no refl
     at false ih = ih
 
-later_back : (vs : List Bool) (n m : ℕ) (shown : List ℕ) (xs : List ℕ) → n < m → pointwise nat_eq (held_from vs m shown) (n ∷ xs) ≡ false
+later_back : (vs : List Bool) (n m : ℕ) (shown : List ℕ) (xs : List ℕ) → n < m → pointwise nat_eq (places_of_true vs m shown) (n ∷ xs) ≡ false
 later_back vs n m [] xs k = refl
 later_back vs n m (line ∷ rest) xs k = at (get_or vs line false) (later_back vs n (m + 1) rest xs (omega arith))
   where
     no : nat_eq m n ≡ false
     no = grind (arith, nat_tests)
 
-    at : (b : Bool) → pointwise nat_eq (held_from vs (m + 1) rest) (n ∷ xs) ≡ false → pointwise nat_eq (if b then m ∷ held_from vs (m + 1) rest else held_from vs (m + 1) rest) (n ∷ xs) ≡ false
+    at : (b : Bool) → pointwise nat_eq (places_of_true vs (m + 1) rest) (n ∷ xs) ≡ false → pointwise nat_eq (if b then m ∷ places_of_true vs (m + 1) rest else places_of_true vs (m + 1) rest) (n ∷ xs) ≡ false
     at true ih = rw no refl
     at false ih = ih
 
 -- the names that hold are the same exactly where no line differs
-pub same_held : (us vs : List Bool) (n : ℕ) (shown : List ℕ) → not (pointwise nat_eq (held_from us n shown) (held_from vs n shown)) ≡ differ_at us vs shown
+pub same_held : (us vs : List Bool) (n : ℕ) (shown : List ℕ) → not (pointwise nat_eq (places_of_true us n shown) (places_of_true vs n shown)) ≡ differ_at us vs shown
 same_held us vs n [] = refl
 same_held us vs n (line ∷ rest) = at (get_or us line false) (get_or vs line false) (same_held us vs (n + 1) rest)
   where
-    at : (a b : Bool) → not (pointwise nat_eq (held_from us (n + 1) rest) (held_from vs (n + 1) rest)) ≡ differ_at us vs rest
-        → not (pointwise nat_eq (if a then n ∷ held_from us (n + 1) rest else held_from us (n + 1) rest) (if b then n ∷ held_from vs (n + 1) rest else held_from vs (n + 1) rest))
+    at : (a b : Bool) → not (pointwise nat_eq (places_of_true us (n + 1) rest) (places_of_true vs (n + 1) rest)) ≡ differ_at us vs rest
+        → not (pointwise nat_eq (if a then n ∷ places_of_true us (n + 1) rest else places_of_true us (n + 1) rest) (if b then n ∷ places_of_true vs (n + 1) rest else places_of_true vs (n + 1) rest))
         ≡ (xor b a || differ_at us vs rest)
     at true true ih = rw (nat_same n) ih
-    at true false ih = rw (later vs n (n + 1) rest (held_from us (n + 1) rest) (omega arith)) refl
-    at false true ih = rw (later_back us n (n + 1) rest (held_from vs (n + 1) rest) (omega arith)) refl
+    at true false ih = rw (later vs n (n + 1) rest (places_of_true us (n + 1) rest) (omega arith)) refl
+    at false true ih = rw (later_back us n (n + 1) rest (places_of_true vs (n + 1) rest) (omega arith)) refl
     at false false ih = ih
 
 -- the number at a place with its label
-pub labelled_at : (label : ℕ → List ℕ) (p j : ℕ) (xs : List ℤ) → j < length xs → get_or (labelled label p xs) j (pos 0, []) ≡ (get_or xs j (pos 0), label (p + j))
+pub labelled_at : (label : ℕ → List ℕ) (p j : ℕ) (xs : List ℤ) → j < length xs → get_or (numbers_with_labels label p xs) j (pos 0, []) ≡ (get_or xs j (pos 0), label (p + j))
 labelled_at label p j [] k = absurd (omega arith)
 labelled_at label p zero (x ∷ xs) k = let z : p + 0 ≡ p = omega arith in rw z refl
 labelled_at label p (suc j) (x ∷ xs) k = let z : (p + 1) + j ≡ p + suc j = omega arith in rw (← z) (labelled_at label (p + 1) j xs (omega arith))
 
-pub length_labelled : (label : ℕ → List ℕ) (p : ℕ) (xs : List ℤ) → length (labelled label p xs) ≡ length xs
+pub length_labelled : (label : ℕ → List ℕ) (p : ℕ) (xs : List ℤ) → length (numbers_with_labels label p xs) ≡ length xs
 length_labelled label p [] = refl
 length_labelled label p (x ∷ xs) = ap suc (length_labelled label (p + 1) xs)
 
 -- the rows that the program picks in a block are those that begin there
 pub picked_rows : (starts : ℕ) (inner label : ℕ → List ℕ) (base i : ℕ) (xs : List ℤ)
     → ((j : ℕ) → i ≤ j → j < i + length xs → (is_one starts j ≡ begins label (base + j)) × (inner j ≡ label (base + j)))
-    → picked starts i (labelled inner i xs) ≡ rows_from label (base + i) xs
+    → items_at_ones starts i (numbers_with_labels inner i xs) ≡ rows_from label (base + i) xs
 picked_rows starts inner label base i [] h = refl
 picked_rows starts inner label base i (x ∷ xs) h =
     let here = h i (omega arith) (omega arith) in
@@ -107,7 +107,7 @@ change_later w b i =
 -- the program's starts are the places where a row begins
 pub starts_are : (words : List ℕ) (before : List Bool) (shown : List ℕ) (values : ℕ → List Bool) (base i : ℕ) → i < 64
     → ((j : ℕ) → j < 64 → bits j words ≡ values (base + j)) → (0 < base → before ≡ values (base - 1))
-    → starts words before shown base i ≡ begins (λ p. held_from (values p) 0 shown) (base + i)
+    → starts words before shown base i ≡ begins (λ p. places_of_true (values p) 0 shown) (base + i)
 starts_are words before shown values zero zero k h c = refl
 starts_are words before shown values (suc base) zero k h c =
     let a : suc base + 0 ≡ suc base = omega arith in
@@ -115,7 +115,7 @@ starts_are words before shown values (suc base) zero k h c =
     let z : (suc base == 0) ≡ false = grind (arith, nat_tests) in
     let now : bits 0 words ≡ values (suc base) = rw a at (h 0 (omega arith)) in
     let was : before ≡ values base = rw d at (c (omega arith)) in
-    rw (a, begins_later (λ p. held_from (values p) 0 shown) base, z, same_held (values base) (values (suc base)) 0 shown)
+    rw (a, begins_later (λ p. places_of_true (values p) 0 shown) base, z, same_held (values base) (values (suc base)) 0 shown)
     (any_alike (λ line. is_change (get_or words line 0) (get_or before line false) 0) (λ line. xor (get_or (values (suc base)) line false) (get_or (values base) line false)) shown
     (λ line. both (is_one (get_or words line 0) 0) (get_or before line false) _ _ (ap (λ v. get_or v line false) (sym now) ∙ bit_of_line 0 words line) (ap (λ v. get_or v line false) (sym was))))
   where
@@ -126,7 +126,7 @@ starts_are words before shown values base (suc i) k h c =
     let z : (suc (base + i) == 0) ≡ false = grind (arith, nat_tests) in
     let now : bits (suc i) words ≡ values (suc (base + i)) = rw a at (h (suc i) k) in
     let was : bits i words ≡ values (base + i) = h i (omega arith) in
-    rw (a, begins_later (λ p. held_from (values p) 0 shown) (base + i), z, same_held (values (base + i)) (values (suc (base + i))) 0 shown)
+    rw (a, begins_later (λ p. places_of_true (values p) 0 shown) (base + i), z, same_held (values (base + i)) (values (suc (base + i))) 0 shown)
     (any_alike (λ line. is_change (get_or words line 0) (get_or before line false) (suc i)) (λ line. xor (get_or (values (suc (base + i))) line false) (get_or (values (base + i)) line false)) shown
     (λ line. change_later (get_or words line 0) (get_or before line false) i ∙ both (is_one (get_or words line 0) (suc i)) (is_one (get_or words line 0) i) _ _
     (ap (λ v. get_or v line false) (sym now) ∙ bit_of_line (suc i) words line) (ap (λ v. get_or v line false) (sym was) ∙ bit_of_line i words line)))
@@ -154,11 +154,11 @@ first_start all i base any e h =
 pub block_rows : (s : ℕ) (words : List ℕ) (before : List Bool) (shown : List ℕ) (values : ℕ → List Bool) (base : ℕ) (block : List ℤ) → length block ≤ 64
     → ((j : ℕ) → j < 64 → bits j words ≡ values (base + j)) → (0 < base → before ≡ values (base - 1))
     → ((i : ℕ) → i < 64 → is_one s i ≡ starts words before shown base i)
-    → picked s 0 (labelled (λ i. held_from (bits i words) 0 shown) 0 block) ≡ rows_from (λ p. held_from (values p) 0 shown) base block
+    → items_at_ones s 0 (numbers_with_labels (λ i. places_of_true (bits i words) 0 shown) 0 block) ≡ rows_from (λ p. places_of_true (values p) 0 shown) base block
 block_rows s words before shown values base block k h c e =
     let z : base + 0 ≡ base = omega arith in
-    rw z at (picked_rows s (λ i. held_from (bits i words) 0 shown) (λ p. held_from (values p) 0 shown) base 0 block
-    (λ j a b. (e j (omega arith) ∙ starts_are words before shown values base j (omega arith) h c, ap (λ v. held_from v 0 shown) (h j (omega arith)))))
+    rw z at (picked_rows s (λ i. places_of_true (bits i words) 0 shown) (λ p. places_of_true (values p) 0 shown) base 0 block
+    (λ j a b. (e j (omega arith) ∙ starts_are words before shown values base j (omega arith) h c, ap (λ v. places_of_true v 0 shown) (h j (omega arith)))))
 
 pub rows_append : (label : ℕ → List ℕ) (p : ℕ) (xs ys : List ℤ) → rows_from label p (xs ++ ys) ≡ rows_from label p xs ++ rows_from label (p + length xs) ys
 rows_append label p [] ys = let z : p + 0 ≡ p = omega arith in rw z refl

@@ -10,9 +10,9 @@ abbrev pub is_change : ℕ → Bool → ℕ → Bool
 is_change word before i = xor (is_one word i) (if i == 0 then before else is_one word (i - 1))
 
 -- those of the items that stand at ones of the word, from bit i on
-abbrev pub picked : {A : Type 0} → ℕ → ℕ → List A → List A
-picked word i [] = []
-picked word i (x ∷ xs) = if is_one word i then x ∷ picked word (i + 1) xs else picked word (i + 1) xs
+abbrev pub items_at_ones : {A : Type 0} → ℕ → ℕ → List A → List A
+items_at_ones word i [] = []
+items_at_ones word i (x ∷ xs) = if is_one word i then x ∷ items_at_ones word (i + 1) xs else items_at_ones word (i + 1) xs
 
 -- the value at the last visited number and the numbers noted, after one more number
 abbrev pub note : Bool × List ℤ → Bool → ℤ → Bool × List ℤ

@@ -12,15 +12,15 @@ abbrev pub ArePlaces : ℕ → List ℕ → Type 0
 ArePlaces count shown = AllByRecursion (λ line. line < count) shown
 
 -- the places in `shown`, counted from n, of the lines that are true
-abbrev pub held_from : List Bool → ℕ → List ℕ → List ℕ
-held_from values n [] = []
-held_from values n (line ∷ rest) =
-    if get_or values line false then n ∷ held_from values (n + 1) rest else held_from values (n + 1) rest
+abbrev pub places_of_true : List Bool → ℕ → List ℕ → List ℕ
+places_of_true values n [] = []
+places_of_true values n (line ∷ rest) =
+    if get_or values line false then n ∷ places_of_true values (n + 1) rest else places_of_true values (n + 1) rest
 
 -- each number with the label of its place, where they stand at the places from p on
-abbrev pub labelled : (ℕ → List ℕ) → ℕ → List ℤ → List (ℤ × List ℕ)
-labelled label p [] = []
-labelled label p (x ∷ xs) = (x, label p) ∷ labelled label (p + 1) xs
+abbrev pub numbers_with_labels : (ℕ → List ℕ) → ℕ → List ℤ → List (ℤ × List ℕ)
+numbers_with_labels label p [] = []
+numbers_with_labels label p (x ∷ xs) = (x, label p) ∷ numbers_with_labels label (p + 1) xs
 
 -- a row begins at the first place, and where the label isn't the one before
 abbrev pub begins : (ℕ → List ℕ) → ℕ → Bool
@@ -39,7 +39,7 @@ starts words before shown base i =
 
 -- the lines shown that are true at a place
 abbrev pub label_of : List (List Step) → List ℕ → ℕ → List ℕ
-label_of lines shown p = held_from (values_of lines p) 0 shown
+label_of lines shown p = places_of_true (values_of lines p) 0 shown
 
 -- a row as its first number and its label
 abbrev pub row : Row → ℤ × List ℕ

@@ -1,7 +1,7 @@
 //! What is noted of the lines: the numbers at which the value of each isn't what it was before.
 ghost use Rattle.std.specs.Prelude.{◌≡◌, ℕ, ◌+◌, ◌<◌, ◌≤◌, ◌++◌, ◌∷◌, [], IfOk, OnOk, List, length};
 ghost use Rattle.truth_blocks.specs.Blocks.{is_one, steps_of};
-ghost use Rattle.truth_blocks.specs.Notes.{is_change, picked, no_notes, note_from, note_words, state, states};
+ghost use Rattle.truth_blocks.specs.Notes.{is_change, items_at_ones, no_notes, note_from, note_words, state, states};
 
 use crate::block::LineSteps;
 use element_core::NoMemory;
@@ -41,7 +41,7 @@ pub(crate) fn changes(word: u64, before: bool) -> u64
 fn push_picked(numbers: &mut Vec<i64>, word: u64, block: &[i64]) -> Result<(), NoMemory>
     requires { length block.now ≤ 64 }
     ensures { OnOk result
-        (numbers.new.items ≡ numbers.old.items ++ picked word 0 block.now) }
+        (numbers.new.items ≡ numbers.old.items ++ items_at_ones word 0 block.now) }
 {
     let mut left = word;
     while left != 0 {

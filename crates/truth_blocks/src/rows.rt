@@ -2,8 +2,8 @@
 ghost use Rattle.std.specs.Prelude.{◌≡◌, ℕ, ◌+◌, ◌<◌, ◌≤◌, ◌++◌, ◌∷◌, [], ◌||◌, if◌then◌else◌, false, IfOk, OnOk, List, length, map, get_or, slice_index};
 ghost use Rattle.std.specs.List.{AllByRecursion, list_any};
 ghost use Rattle.truth_blocks.specs.Blocks.{is_one, bits};
-ghost use Rattle.truth_blocks.specs.Notes.{is_change, picked, noted_values};
-ghost use Rattle.truth_blocks.specs.Rows.{held_from, labelled, rows_of, starts, ArePlaces};
+ghost use Rattle.truth_blocks.specs.Notes.{is_change, items_at_ones, noted_values};
+ghost use Rattle.truth_blocks.specs.Rows.{places_of_true, numbers_with_labels, rows_of, starts, ArePlaces};
 
 use crate::note::{Noted, changes};
 use element_core::NoMemory;
@@ -93,7 +93,7 @@ fn held_at(
 ) -> Result<Vec<usize>, NoMemory>
     requires within { ArePlaces (length words.now) shown.now }
     requires place { place < 64 }
-    ensures { IfOk result (λ held. held.items ≡ held_from (bits place words.now) 0 shown.now) }
+    ensures { IfOk result (λ held. held.items ≡ places_of_true (bits place words.now) 0 shown.now) }
 {
     let mut held = Vec::with_capacity(alloc, room)?;
     for (k, line) in shown.iter().enumerate() {
@@ -114,7 +114,8 @@ pub(crate) fn push_rows(
     requires within { ArePlaces (length words.now) shown.now }
     requires short { length block.now ≤ 64 }
     ensures { OnOk result (rows_of rows.new.items ≡ rows_of rows.old.items
-        ++ picked starts 0 (labelled (λ i. held_from (bits i words.now) 0 shown.now) 0 block.now)) }
+        ++ items_at_ones starts 0
+        (numbers_with_labels (λ i. places_of_true (bits i words.now) 0 shown.now) 0 block.now)) }
 {
     let mut left = starts;
     while left != 0 {

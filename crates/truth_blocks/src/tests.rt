@@ -10,7 +10,7 @@ fn line(alloc: Global, steps: &[Step]) -> Result<LineSteps, NoMemory> {
     Ok(LineSteps { steps: list })
 }
 
-/// The first line is true at the places 63 and 64, and the second one is its negation.
+// The first line is true at the places 63 and 64, and the second one is its negation.
 fn pass_over(alloc: Global, count: i64) -> Result<Pass, NoMemory> {
     let mut visited = Vec::new(alloc);
     for number in 0..count {

@@ -51,16 +51,16 @@ fn pass_block(
     Ok(())
 }
 
-/// What a pass over the visited numbers notes of each line, and the rows.
+/// Returns what a pass over the visited numbers notes of each line, and the rows.
 ///
 /// A line may take the values of those before it. It is noted at the visited numbers at which its
 /// value isn't what it was at the number before, or isn't false at the first. A row begins at the
 /// first number, and where one of the lines shown changes; it says which of them are true, each by
 /// its place in `shown`.
 ///
-/// O(s + k) for each 64 numbers, with s steps in all and k lines shown, and O(k) for each row. It
-/// takes memory for what is noted, for the rows and for a word for each line, and is refused where
-/// there is none.
+/// O(s + k) time for each 64 numbers, with s steps in all and k lines shown, and O(k) for each row;
+/// memory for what is noted, for the rows and for a word for each line. It is refused where there
+/// is none.
 pub fn one_pass(
     alloc: Global,
     visited: &[i64],

@@ -11,7 +11,7 @@ returns c =
     let parts = c.in_ok-done.ensures in
     record {
       well_formed = c.in_ok-ranges.ensures.fault_free;
-      shape = shape_of_parts text _ parts.lines parts.names parts.rows;
+      shape = shape_of_parts text _ _ parts.lines parts.rows;
       fault = tt;
       few_ranges = rw parts.lines (few_ranges text);
       few_rows = rw parts.rows (few_rows text);

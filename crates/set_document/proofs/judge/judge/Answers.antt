@@ -1,6 +1,5 @@
 use Rattle.std.proofs.Common.{◌∙◌, arith, append_assoc}
-use Rattle.set_document.specs.Compile.{known}
-use Rattle.set_document.specs.Text.{lines}
+use Rattle.text_lines.specs.Lines.{lines}
 use Rattle.set_document.proofs.EvaluateLemmas.{fault_turn}
 use Rattle.set_document.proofs.judge.judge.Goals as goal
 
@@ -13,8 +12,7 @@ loop-rest-preserved c =
     let fault = rw c.cut_line.ensures.lines at i.fault in
     let ranges = rw c.cut_line.ensures.lines at i.ranges in
     record {
-      fault = fault_turn (known c.loop-rest.names.list.items) (known c.judge_line.new.names.list.items) c.loop-rest.line piece (lines after) a.fault_free a.names ∙ fault;
+      fault = fault_turn c.loop-rest.names c.judge_line.new.names c.loop-rest.line piece (lines after) a.fault_free a.names ∙ fault;
       ranges = rw (a.ranges, append_assoc) ranges;
-      indexed = a.indexed;
       count = omega (arith, c.cut_line.ensures.shorter);
     }

@@ -3,13 +3,13 @@ use Rattle.std.proofs.Common.{◌≡◌, ◌++◌, ◌≤◌, ◌-◌, drop, len
 use Rattle.cut_points.specs.Cuts.{IsAscending}
 use Rattle.set_document.specs.Numbers.{least, greatest}
 use Rattle.set_document.specs.Tabled.{table_rows}
-use Rattle.set_document.specs.Visits.{closed, firsts}
+use Rattle.set_document.specs.Visits.{rows_with_ends, firsts}
 use Rattle.truth_blocks.specs.Rows.{rows_of}
 use Rattle.set_document.proofs.pass.close_rows.Given as goal
 
 abbrev pub invariant-loop-i : goal.invariant-loop-i
 invariant-loop-i l = record {
-  same : table_rows l.done.items ++ closed greatest (rows_of (drop l.i l.left.items)) ≡ closed greatest (rows_of l.fn.rows.items);
+  same : table_rows l.done.items ++ rows_with_ends greatest (rows_of (drop l.i l.left.items)) ≡ rows_with_ends greatest (rows_of l.fn.rows.items);
   ascending : IsAscending least greatest (firsts (rows_of (drop l.i l.left.items)));
   bound : l.i ≤ length l.left.items;
 }

@@ -1,7 +1,7 @@
 use Rattle.std.proofs.Common.{◌≡◌, ◌∙◌, ◌+◌, ◌∷◌, drop, get_or, arith}
 use Rattle.std.proofs.lemmas.Grind.{common_steps}
 use Rattle.truth_blocks.specs.Blocks.{bits}
-use Rattle.truth_blocks.specs.Rows.{held_from}
+use Rattle.truth_blocks.specs.Rows.{places_of_true}
 use Rattle.truth_blocks.proofs.RowLemmas.{bit_of_line}
 use Rattle.truth_blocks.proofs.rows.held_at.Goals as goal
 
@@ -12,5 +12,5 @@ loop-k-preserved c =
     let e : drop n shown ≡ get_or shown n 0 ∷ drop (n + 1) shown = grind (arith, common_steps) in
     let within = rw e at c.loop-k.invariant.within in
     let before = rw (e, bit_of_line c.args.place c.args.words.now (get_or shown n 0)) at c.loop-k.invariant.same in
-    let pushed = rw c.is_set.ensures at (c.in_ok-push_if.ensures (held_from (bits c.args.place c.args.words.now) (n + 1) (drop (n + 1) shown))) in
+    let pushed = rw c.is_set.ensures at (c.in_ok-push_if.ensures (places_of_true (bits c.args.place c.args.words.now) (n + 1) (drop (n + 1) shown))) in
     record { same = pushed ∙ before; within = within.1 }
