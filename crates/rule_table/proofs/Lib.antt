@@ -1,0 +1,12 @@
+pub mod BlockLemmas
+pub mod DeadLemmas
+pub mod DecisionLemmas
+pub mod HolderLemmas
+pub mod HoldsLemmas
+pub mod LengthLemmas
+pub mod MarkLemmas
+pub mod TakenLemmas
+pub mod TilingLemmas
+pub mod TrailingLemmas
+pub mod WinnerLemmas
+pub mod WrittenLemmas

@@ -1,0 +1,112 @@
+//! What no contract shows: that the calls succeed where memory suffices, and answers that people
+//! know.
+use crate::print::print_table;
+use crate::{Decision, Rule, RuleTable};
+use range_map::Range;
+use std::process::Abort;
+use std::test::Fail;
+
+fn allow(addresses: Range<u32>) -> Rule {
+    Rule {
+        decision: Decision::Allow,
+        addresses,
+    }
+}
+
+fn deny(addresses: Range<u32>) -> Rule {
+    Rule {
+        decision: Decision::Deny,
+        addresses,
+    }
+}
+
+#[test]
+fn the_last_rule_decides(rt: HostRuntime) -> Result<(), Fail> {
+    let rules = [
+        allow(Range::new(10, 19)),
+        deny(Range::single(15)),
+        allow(Range::new(16, 20)),
+    ];
+    let table = RuleTable::build(rt.alloc(), &rules)?;
+    let known = [
+        (9, None, None),
+        (10, Some(0), Some(Decision::Allow)),
+        (15, Some(1), Some(Decision::Deny)),
+        (16, Some(2), Some(Decision::Allow)),
+        (21, None, None),
+    ];
+    for (x, winner, decision) in known {
+        assert!(rt;
+            table.winner(x) == winner && table.decide(x) == decision,
+            "at {x}"
+        );
+    }
+    Ok(())
+}
+
+#[test]
+fn a_rule_covered_piece_by_piece_is_dead(rt: HostRuntime) -> Result<(), Fail> {
+    let rules = [
+        allow(Range::new(10, 19)),
+        allow(Range::new(5, 14)),
+        deny(Range::new(15, 30)),
+        deny(Range::new(14, 29)),
+    ];
+    let table = RuleTable::build(rt.alloc(), &rules)?;
+    let known = [Some(true), Some(false), Some(false), Some(false), None];
+    for (place, dead) in known.iter().enumerate() {
+        assert!(rt; table.is_dead(place) == *dead, "at {place}");
+    }
+    Ok(())
+}
+
+#[test]
+fn smallest_and_largest_address(rt: HostRuntime) -> Result<(), Fail> {
+    let rules = [
+        allow(Range::full()),
+        deny(Range::single(0)),
+        deny(Range::single(u32::MAX)),
+    ];
+    let table = RuleTable::build(rt.alloc(), &rules)?;
+    let known = [
+        (0, Some(1)),
+        (1, Some(0)),
+        (u32::MAX - 1, Some(0)),
+        (u32::MAX, Some(2)),
+    ];
+    for (x, winner) in known {
+        assert!(rt; table.winner(x) == winner, "at {x}");
+    }
+    Ok(())
+}
+
+#[test]
+fn segments_then_blocks_then_dead_rules(rt: HostRuntime) -> Result<(), Fail> {
+    let rules = [
+        allow(Range::new(0x0A00_0000, 0x0A00_0009)),
+        deny(Range::single(0x0A00_0005)),
+        allow(Range::new(0x0A00_0006, 0x0A00_0007)),
+        allow(Range::new(0x0A00_0006, 0x0A00_0007)),
+    ];
+    let wanted = "0.0.0.0-9.255.255.255 none\n\
+        10.0.0.0-10.0.0.4 allow\n10.0.0.5-10.0.0.5 deny\n10.0.0.6-10.0.0.9 allow\n\
+        10.0.0.10-255.255.255.255 none\n\
+        block 10.0.0.0/30\nblock 10.0.0.4/32\nblock 10.0.0.6/31\nblock 10.0.0.8/31\n\
+        dead 3\n";
+    let written = print_table(rt.alloc(), &rules, &[1, 2, 3, 4])?;
+    assert!(rt; written.as_slice() == wanted.as_bytes());
+    Ok(())
+}
+
+#[test]
+fn blocks_at_both_ends(rt: HostRuntime) -> Result<(), Fail> {
+    let alloc = rt.alloc();
+    let written = print_table(alloc, &[allow(Range::full())], &[1])?;
+    let wanted = "0.0.0.0-255.255.255.255 allow\nblock 0.0.0.0/0\n";
+    assert!(rt; written.as_slice() == wanted.as_bytes());
+    let written = print_table(alloc, &[allow(Range::new(u32::MAX - 2, u32::MAX))], &[1])?;
+    let wanted = "0.0.0.0-255.255.255.252 none\n255.255.255.253-255.255.255.255 allow\n\
+        block 255.255.255.253/32\nblock 255.255.255.254/31\n";
+    assert!(rt; written.as_slice() == wanted.as_bytes());
+    Ok(())
+}
