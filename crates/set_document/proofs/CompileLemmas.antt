@@ -16,7 +16,8 @@ use Rattle.truth_blocks.proofs.WalkLemmas.{length_values}
 use Rattle.set_document.specs.Compile.{known, AreLineSteps, paired}
 use Rattle.set_document.specs.Visits.{values_at}
 use Rattle.truth_blocks.specs.declared.block.LineSteps.{LineSteps}
-use Rattle.set_document.specs.Text.{Named, form, words, lines}
+use Rattle.text_lines.specs.Lines.{words, lines}
+use Rattle.set_document.specs.Text.{Named, form}
 use Rattle.set_document.specs.Truth.{Lines, at, named}
 use Rattle.set_document.specs.Words.{letters}
 use Rattle.set_document.specs.declared.word.Name.{Name}

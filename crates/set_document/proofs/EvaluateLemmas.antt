@@ -1,9 +1,11 @@
-use Rattle.std.proofs.Common.{◌≡◌, List, [], ◌∷◌, ◌++◌, refl, sym, ◌∙◌}
+use Rattle.std.proofs.Common.{◌≡◌, List, [], ◌∷◌, ◌++◌, map, refl, sym, ap, ◌∙◌}
 use Rattle.std.specs.Prelude.{ℕ, ℤ, ◌≤ℤ◌, Bool, None, ◌+◌, Option, Result, Ok, Err, OnOk}
 use Rattle.std.proofs.lemmas.List.{map-append}
+use Rattle.text_lines.proofs.FaultLemmas.{fault_behind}
 use Rattle.set_document.specs.Numbers.{least, greatest}
 use Rattle.set_document.specs.Steps.{IsStep, IsStepAfter}
-use Rattle.set_document.specs.Text.{Kind, Form, Comment, Named, Bad, form, words}
+use Rattle.text_lines.specs.Lines.{words}
+use Rattle.set_document.specs.Text.{Kind, Form, Comment, Named, Bad, form}
 use Rattle.set_document.specs.Truth.{Lines, at, truth, after_form, after_lines}
 use Rattle.set_document.specs.Faults.{fault_from, fault_in_form, names_after}
 use Rattle.set_document.specs.Lines.{Agree, lines_of}
@@ -46,4 +48,5 @@ step_after lines word before after (Err e) h = h
 
 pub fault_turn : (known names : List (List ℕ)) (line : ℕ) (l : List ℕ) (ls : List (List ℕ)) → fault_in_form known line (form l) ≡ None → names ≡ names_after known (form l)
     → fault_from names (line + 1) ls ≡ fault_from known line (l ∷ ls)
-fault_turn known names line l ls e f = rw (f, fault_from, e)
+fault_turn known names line l ls e f =
+    ap (λ ns. fault_from ns (line + 1) ls) f ∙ sym (fault_behind fault_in_form names_after known line (form l) (map form ls) e)

@@ -11,7 +11,8 @@ use Rattle.number_line.proofs.CoverLemmas.{fewest}
 use Rattle.set_document.specs.Laws.{segment_of, RowsAreFewest}
 use Rattle.set_document.specs.Numbers.{least, greatest, above_least}
 use Rattle.set_document.specs.Table.{names, held, rows, row_of}
-use Rattle.set_document.specs.Text.{lines, form, Comment}
+use Rattle.text_lines.specs.Lines.{lines}
+use Rattle.set_document.specs.Text.{form, Comment}
 use Rattle.set_document.specs.Truth.{Lines, at, after_form, after_lines, named}
 use Rattle.set_document.proofs.NumberLemmas.{width}
 use Rattle.set_document.proofs.TableLemmas.{list_itself}

@@ -1,15 +1,12 @@
 pub mod AnswerLemmas
-pub mod CutLemmas
 pub mod EvaluateLemmas
 pub mod NumberLemmas
-pub mod ReaderLemmas
 pub mod TruthLemmas
 pub mod NameLemmas
 pub mod TableLemmas
 pub mod GatherLemmas
 pub mod FewestLemmas
 pub mod ReadLemmas
-pub mod PieceLemmas
 pub mod DecimalLemmas
 pub mod PrintedLemmas
 pub mod ReadBackLemmas

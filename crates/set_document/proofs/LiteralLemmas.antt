@@ -8,7 +8,8 @@ use Rattle.ordered_lists.specs.Lists.{has}
 use Rattle.cut_points.specs.Cuts.{cuts, cuts_alone}
 use Rattle.cut_points.proofs.CutLemmas.{has_cons, eq_same, lt_yes, lt_no, le_yes, le_no}
 use Rattle.set_document.specs.Numbers.{greatest}
-use Rattle.set_document.specs.Text.{lines, words, form, kind, Form, Kind, Number, Span, Empty, Full, Name, Not, Or, And, Minus, Xor, Comment, Named, Bad}
+use Rattle.text_lines.specs.Lines.{lines, words}
+use Rattle.set_document.specs.Text.{form, kind, Form, Kind, Number, Span, Empty, Full, Name, Not, Or, And, Minus, Xor, Comment, Named, Bad}
 use Rattle.set_document.specs.Truth.{Lines, at, after_word, after_words, truth, after_form, after_lines, named}
 use Rattle.truth_blocks.specs.Stack.{last_value}
 use Rattle.set_document.specs.Literals.{literal, literals_of_words, literals_of_form, literals_of, literal_cuts}

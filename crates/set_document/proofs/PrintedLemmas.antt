@@ -8,16 +8,21 @@ use Rattle.std.proofs.lemmas.List.{append-nil, take_at, drop_at}
 use Rattle.number_line.specs.Ranges.{holds, lies_in}
 use Rattle.set_document.specs.Answer.{range_text, further_text, list_text, line_text, name_text, row_text}
 use Rattle.set_document.specs.Faults.{Depth, judge_word, fault_in_words}
-use Rattle.set_document.specs.Text.{words, kind, form, form_of_body, form_of_named, is_letter, is_name, Or, Comment, Named}
+use Rattle.text_lines.specs.Lines.{words}
+use Rattle.set_document.specs.Text.{kind, form, form_of_body, form_of_named, is_letter, is_name, Or, Comment, Named}
 use Rattle.set_document.specs.Truth.{after_word, after_words}
 use Rattle.truth_blocks.specs.Stack.{last_value}
 use Rattle.std.proofs.lemmas.Bool.Decides.{nat_tests}
-use Rattle.set_document.proofs.PieceLemmas.{all_weaken, both_all, split_word, split_last, prefix_whole, form_before_feed}
+use Rattle.text_lines.proofs.PieceLemmas.{all_weaken, both_all, split_word, split_last, prefix_whole, feed_ends, before_feed}
 use Rattle.set_document.proofs.DecimalLemmas.{range_bytes, kind_of_range}
 
 -- both ends are numbers of 64 bits, in order
 abbrev pub IsShown : ℤ × ℤ → Type 0
 IsShown r = FitsSigned w64 r.0 × FitsSigned w64 r.1 × (r.0 ≤ℤ r.1)
+
+-- a line's form is that of what stands before its line feed
+pub form_before_feed : (body : List ℕ) → form (body ++ 10 ∷ []) ≡ form_of_body body
+form_before_feed body = rw (feed_ends body, before_feed body) refl
 
 -- ---- bytes
 

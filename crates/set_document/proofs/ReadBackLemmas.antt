@@ -13,18 +13,20 @@ use Rattle.number_line.specs.Segments.{Segment, put_before, segments, IsCut}
 use Rattle.number_line.proofs.SegmentLemmas.{segments_cut}
 use Rattle.ordered_lists.specs.Lists.{add}
 use Rattle.ordered_lists.proofs.PlaceLemmas.{all_map}
+use Rattle.text_lines.proofs.FaultLemmas.{fault_behind}
 use Rattle.set_document.specs.Answer.{Shape, shape, listed, printed, answer, line_text, row_text, list_text}
 use Rattle.set_document.specs.Faults.{fault_in_form, fault_in_words, fault_from, names_after, first_fault}
 use Rattle.set_document.specs.Laws.{AnswersReadBack}
 use Rattle.set_document.specs.Names.{bytes_cmp, distinct}
 use Rattle.set_document.specs.Numbers.{least, greatest, above_least, i64_runs}
 use Rattle.set_document.specs.Table.{names, held, rows, row_of}
-use Rattle.set_document.specs.Text.{lines, form, form_after, form_of_named, is_name, words, Form, Comment, Named, Bad}
+use Rattle.text_lines.specs.Lines.{lines, words}
+use Rattle.set_document.specs.Text.{form, form_after, form_of_named, is_name, Form, Comment, Named, Bad}
 use Rattle.set_document.specs.Truth.{Lines, at, after_form, after_lines, truth, named}
 use Rattle.set_document.proofs.FewestLemmas.{only_comments}
 use Rattle.set_document.proofs.NumberLemmas.{runs_are_the_ranges, width}
 use Rattle.set_document.proofs.DecimalLemmas.{fits}
-use Rattle.set_document.proofs.PieceLemmas.{lines_pieces}
+use Rattle.text_lines.proofs.PieceLemmas.{lines_pieces}
 use Rattle.set_document.proofs.PrintedLemmas.{IsShown, IsListed, line_body, line_is, line_bytes, line_form, list_split, list_faultless, list_truth, row_body, row_is, row_form, row_bytes}
 
 -- ---- what is printed is a shape whose names are names, and whose numbers are numbers of 64 bits
@@ -150,7 +152,7 @@ rows_are_comments names (row ∷ rows) = (row_form names row, rows_are_comments 
 pub line_step : (known : List (List ℕ)) (line : ℕ) (l : List ℕ) (ls : List (List ℕ))
     → fault_in_form known line (form l) ≡ None
     → fault_from known line (l ∷ ls) ≡ fault_from (names_after known (form l)) (line + 1) ls
-line_step known line l ls e = rw (e, fault_from) refl
+line_step known line l ls e = fault_behind fault_in_form names_after known line (form l) (map form ls) e
 
 comments_faultless : (known : List (List ℕ)) (line : ℕ) (ls : List (List ℕ))
     → AllByRecursion (λ line. form line ≡ Comment) ls → fault_from known line ls ≡ None

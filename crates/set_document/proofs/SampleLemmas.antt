@@ -11,10 +11,11 @@ use Rattle.number_line.proofs.PlacedLemmas.{by_cases}
 use Rattle.set_document.specs.Answer.{range_text}
 use Rattle.set_document.specs.Faults.{Depth, judge_word, fault_in_words, fault_in_form, fault_from, names_after, first_fault, IsWellFormed}
 use Rattle.set_document.specs.Sample.{sample_name, sample_range, sample_words, sample_line, sample}
-use Rattle.set_document.specs.Text.{lines, words, kind, form, is_letter, is_letters, is_name, Name, Named}
+use Rattle.text_lines.specs.Lines.{lines, words}
+use Rattle.set_document.specs.Text.{kind, form, is_letter, is_letters, is_name, Name, Named}
 use Rattle.set_document.proofs.DecimalLemmas.{range_bytes}
-use Rattle.set_document.proofs.PieceLemmas.{both_all, lines_piece, split_word, split_last, form_before_feed}
-use Rattle.set_document.proofs.PrintedLemmas.{IsShown, name_bytes, body_of_name, fault_step, judged}
+use Rattle.text_lines.proofs.PieceLemmas.{both_all, lines_piece, split_word, split_last}
+use Rattle.set_document.proofs.PrintedLemmas.{IsShown, form_before_feed, name_bytes, body_of_name, fault_step, judged}
 use Rattle.set_document.proofs.ReadBackLemmas.{line_step}
 
 -- ---- names

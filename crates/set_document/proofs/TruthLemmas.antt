@@ -2,7 +2,8 @@
 use Rattle.std.proofs.Common.{◌≡◌, List, [], ◌∷◌, ◌++◌, refl, ap, ◌∙◌}
 use Rattle.std.specs.Prelude.{ℕ, ℤ, Bool, map, fold, Option}
 use Rattle.std.proofs.lemmas.List.{map-append}
-use Rattle.set_document.specs.Text.{Form, Comment, Named, Bad, form, words, lines}
+use Rattle.text_lines.specs.Lines.{words, lines}
+use Rattle.set_document.specs.Text.{Form, Comment, Named, Bad, form}
 use Rattle.set_document.specs.Lines.{pairs_of}
 use Rattle.set_document.specs.declared.truth.Known.{Known}
 use Rattle.set_document.specs.Truth.{Lines, at, after_form, after_lines, after_words, named}

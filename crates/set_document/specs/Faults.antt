@@ -1,9 +1,11 @@
 -- The first fault of a document: lines are judged in order, in a line its form first, then its words, and last the number of sets left.
-use Rattle.std.specs.Prelude.{◌≡◌, ℕ, ◌+◌, ◌-◌, ◌==◌, nat_lt, if◌then◌else◌, List, [], ◌∷◌, ◌++◌, bytes_eq, int_lt, Option, Some, None}
+use Rattle.std.specs.Prelude.{◌≡◌, ℕ, ◌+◌, ◌-◌, ◌==◌, nat_lt, if◌then◌else◌, List, [], ◌∷◌, ◌++◌, map, bytes_eq, int_lt, Option, Some, None}
 use Rattle.std.specs.List.{list_any}
 use Rattle.set_document.specs.declared.fault.AlgebraError.{AlgebraError}
 use Rattle.set_document.specs.declared.fault.AlgebraError.TheVariants.{BadLine, BadWord, Reversed, UnknownName, StackShort, NotOne}
-use Rattle.set_document.specs.Text.{lines, words, form, kind, Form, Kind, Number, Span, Empty, Full, Name, Not, Or, And, Minus, Xor, Comment, Named, Bad}
+use Rattle.text_lines.specs.Faults.{first_fault_from}
+use Rattle.text_lines.specs.Lines.{lines, words}
+use Rattle.set_document.specs.Text.{form, kind, Form, Kind, Number, Span, Empty, Full, Name, Not, Or, And, Minus, Xor, Comment, Named, Bad}
 
 -- the number of sets after a word, or the fault at it: known are the names of the lines before
 pub data Step : Type 0 where
@@ -49,9 +51,7 @@ names_after known Bad = known
 
 -- the first fault in the lines from number `line` on
 abbrev pub fault_from : List (List ℕ) → ℕ → List (List ℕ) → Option AlgebraError
-fault_from known line [] = None
-fault_from known line (l ∷ ls) =
-    elim (fault_in_form known line (form l)) [ Some f ↦ Some f | None ↦ fault_from (names_after known (form l)) (line + 1) ls ]
+fault_from known line ls = first_fault_from fault_in_form names_after known line (map form ls)
 
 -- the first fault of a text, whose lines and words count from 1, or none
 unfoldable pub first_fault : List ℕ → Option AlgebraError

@@ -12,7 +12,8 @@ use Rattle.set_document.specs.Faults.{IsWellFormed}
 use Rattle.set_document.specs.Literals.{literals, literal_cuts}
 use Rattle.set_document.specs.Numbers.{least, greatest, i64_runs}
 use Rattle.set_document.specs.Table.{names, held, rows}
-use Rattle.set_document.specs.Text.{lines, form, Comment}
+use Rattle.text_lines.specs.Lines.{lines}
+use Rattle.set_document.specs.Text.{form, Comment}
 use Rattle.set_document.specs.Truth.{at, named}
 
 -- the runs of a test of numbers are the one canonical list that holds just the numbers that pass it

@@ -2,7 +2,8 @@
 use Rattle.std.specs.Prelude.{ℕ, ℤ, List, [], ◌∷◌, flat_map, Option, Some, None}
 use Rattle.cut_points.specs.Cuts.{cuts_alone}
 use Rattle.set_document.specs.Numbers.{greatest}
-use Rattle.set_document.specs.Text.{lines, words, form, kind, Form, Kind, Number, Span, Empty, Full, Name, Not, Or, And, Minus, Xor, Comment, Named, Bad}
+use Rattle.text_lines.specs.Lines.{lines, words}
+use Rattle.set_document.specs.Text.{form, kind, Form, Kind, Number, Span, Empty, Full, Name, Not, Or, And, Minus, Xor, Comment, Named, Bad}
 
 -- the range of a word that is a number or a range
 abbrev pub literal : Option Kind → List (ℤ × ℤ)

@@ -1,5 +1,5 @@
 -- What one word, and the words of a line, do to the evaluator's stack.
-use Rattle.std.specs.Prelude.{◌≡◌, ℕ, ◌+◌, Some, None, ℤ, ◌≤ℤ◌, ◌⊎◌, Bool, List, length, Option}
+use Rattle.std.specs.Prelude.{◌≡◌, ℕ, Some, ℤ, ◌≤ℤ◌, ◌⊎◌, Bool, List, Option}
 use Rattle.set_document.specs.Numbers.{least, greatest}
 use Rattle.set_document.specs.Text.{Kind, Or, And, Minus, Xor}
 use Rattle.set_document.specs.Truth.{Lines, at, after_word}
@@ -34,8 +34,3 @@ IsFault step e = (e ≡ fault.NoMemory) ⊎ (step ≡ Fault e)
 -- e is want of memory, or the first fault
 abbrev pub IsFirstFault : Option AlgebraError → AlgebraError → Type 0
 IsFirstFault first e = (e ≡ fault.NoMemory) ⊎ (first ≡ Some e)
-
--- how many bytes are left, with one for the space before them
-abbrev pub left_len : Option (List ℕ) → ℕ
-left_len None = 0
-left_len (Some rest) = length rest + 1

@@ -1,36 +1,14 @@
--- What a document is made of: its lines, their words, and the numbers among them. A text is the list of its bytes.
-use Rattle.std.specs.Prelude.{ℕ, ◌-◌, slice_index, ℤ, Bool, false, not, ◌&&◌, ◌==◌, nat_le, nat_lt, int_le, if◌then◌else◌, List, [], ◌∷◌, length, drop, take, bytes_eq, codes, Option, Some, None}
-use Rattle.std.specs.List.{slice_split, onto_first, list_all, position_or_len, prefix_len}
-use Rattle.std.specs.Str.{all_ascii_digits}
-use Rattle.std.specs.Str.Parse.{signed_digits_value}
-use Rattle.std.specs.Char.{is_ascii_digit}
+-- What a document is made of: the kinds of its words, and the forms of its lines. A text is the list of its bytes; its lines, and the words
+-- of what stands behind the colon and space of a named line, are those of any text.
+use Rattle.std.specs.Prelude.{ℕ, ◌-◌, slice_index, ℤ, Bool, not, ◌&&◌, ◌==◌, nat_le, nat_lt, if◌then◌else◌, List, [], ◌∷◌, length, drop, take, bytes_eq, codes, Option, Some, None}
+use Rattle.std.specs.List.{list_all, position_or_len, prefix_len}
+use Rattle.text_lines.specs.Lines.{ends_with_feed}
+use Rattle.text_lines.specs.Decimals.{number_between}
 use Rattle.set_document.specs.Numbers.{least, greatest}
-
--- the lines of a text: the pieces that end with a line feed, each with it, and one last piece without where bytes remain
-abbrev pub lines : List ℕ → List (List ℕ)
-lines [] = []
-lines (b ∷ bs) = if b == 10 then (b ∷ []) ∷ lines bs else onto_first b (lines bs)
-
--- ---- numbers
-
--- `0`, or digits of which the first is not `0`
-abbrev pub is_decimal : List ℕ → Bool
-is_decimal [] = false
-is_decimal (c ∷ []) = is_ascii_digit c
-is_decimal (c ∷ d ∷ ds) = not (c == 48) && all_ascii_digits (c ∷ d ∷ ds)
-
--- a decimal, or `-` and a decimal that is not `0`
-abbrev pub has_number_form : List ℕ → Bool
-has_number_form [] = false
-has_number_form (c ∷ cs) = if c == 45 then is_decimal cs && not (bytes_eq cs (codes "0")) else is_decimal (c ∷ cs)
-
-abbrev pub in_i64 : ℤ → Bool
-in_i64 z = int_le least z && int_le z greatest
 
 -- the number that a piece writes in decimal, where it is one of 64 bits
 abbrev pub number : List ℕ → Option ℤ
-number piece =
-    if has_number_form piece && in_i64 (signed_digits_value 10 piece) then Some (signed_digits_value 10 piece) else None
+number piece = number_between least greatest piece
 
 -- ---- words
 
@@ -103,9 +81,6 @@ pub data Form : Type 0 where
   Named : List ℕ → Option (List ℕ) → Form
   Bad : Form
 
-abbrev pub ends_with_feed : List ℕ → Bool
-ends_with_feed line = nat_lt 0 (length line) && (slice_index line (length line - 1) == 10)
-
 -- the form, by what stands behind the name
 abbrev pub form_after : List ℕ → List ℕ → Form
 form_after name [] = Bad
@@ -124,8 +99,3 @@ form_of_body body = if slice_index body 0 == 35 then Comment else form_of_named 
 
 abbrev pub form : List ℕ → Form
 form line = if ends_with_feed line then form_of_body (take (length line - 1) line) else Bad
-
--- the words of a named line: the pieces between single spaces of what stands behind its colon and space
-abbrev pub words : Option (List ℕ) → List (List ℕ)
-words None = []
-words (Some rest) = slice_split (λ b. b == 32) rest

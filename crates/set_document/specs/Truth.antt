@@ -5,7 +5,8 @@
 use Rattle.std.specs.Prelude.{ℕ, ℤ, Bool, true, false, not, ◌&&◌, ◌||◌, if◌then◌else◌, List, [], ◌∷◌, ◌++◌, fold, map, bytes_eq, Option, Some, None}
 use Rattle.number_line.specs.Ranges.{lies_in, xor}
 use Rattle.truth_blocks.specs.Stack.{on_one, on_two, last_value}
-use Rattle.set_document.specs.Text.{lines, words, form, kind, Form, Kind, Number, Span, Empty, Full, Name, Not, Or, And, Minus, Xor, Comment, Named, Bad}
+use Rattle.text_lines.specs.Lines.{lines, words}
+use Rattle.set_document.specs.Text.{form, kind, Form, Kind, Number, Span, Empty, Full, Name, Not, Or, And, Minus, Xor, Comment, Named, Bad}
 
 -- named lines in order, each with its truth at every number
 abbrev pub Lines : Type 0

@@ -4,17 +4,18 @@ ghost use Rattle.cut_points.specs.Cuts.{IsAscending};
 ghost use Rattle.set_document.specs.Compile.{known, after_some, IsWordStep, AreLineSteps};
 ghost use Rattle.set_document.specs.Names.{IsIndex};
 ghost use Rattle.set_document.specs.Numbers.{least, greatest};
-ghost use Rattle.set_document.specs.Text.{words};
+ghost use Rattle.text_lines.specs.Lines.{words};
 ghost use Rattle.set_document.specs.Truth.{named};
 ghost use Rattle.set_document.specs.Visits.{IsCompiled};
 ghost use Rattle.set_document.specs.Words.{shown};
 ghost use Rattle.truth_blocks.specs.Blocks.{after_steps, steps_of};
 
-use crate::line::{LineForm, cut_line, cut_piece, read_line};
+use crate::line::{LineForm, read_line};
 use crate::names::Names;
 use crate::word::{Word, read_word};
 use element_core::NoMemory;
 use std::alloc::Global;
+use text_lines::{cut_line, cut_piece};
 use truth_blocks::{LineSteps, Step};
 
 // The place of the first visited number that is x or above.

@@ -2,7 +2,8 @@
 ghost use Rattle.std.specs.Prelude.{◌≡◌, ℕ, ◌+◌, ◌<◌, ◌≤◌, ℤ, Bool, ◌≤ℤ◌, [], ◌∷◌, ◌++◌, IfOk, IfErr, OnOk, MatchOption, length, List, Option, option_map, option_copied, Some, None};
 ghost use Rattle.number_line.specs.Ranges.{holds, IsCanonical};
 ghost use Rattle.set_document.specs.Numbers.{least, greatest};
-ghost use Rattle.set_document.specs.Text.{words, form, Not};
+ghost use Rattle.text_lines.specs.Lines.{words};
+ghost use Rattle.set_document.specs.Text.{form, Not};
 ghost use Rattle.set_document.specs.Truth.{after_form, named, truth};
 ghost use Rattle.set_document.specs.Faults.{judge_word, fault_in_words, fault_in_form, names_after, first_fault, IsWellFormed, Depth};
 ghost use Rattle.set_document.specs.Words.{shown};
@@ -12,12 +13,13 @@ ghost use Rattle.set_document.specs.Steps.{IsStep, IsStepAfter, IsFault, IsFirst
 ghost use Rattle.set_document.specs.declared.fault.AlgebraError.TheVariants as AlgebraError;
 
 use crate::fault::AlgebraError;
-use crate::line::{LineForm, cut_line, cut_piece, read_line};
+use crate::line::{LineForm, read_line};
 use crate::named_lines::NamedLines;
 use crate::word::{Name, Word, read_word};
 use cut_points::{difference, symmetric_difference};
 use range_map::{Range, RangeSet};
 use std::alloc::Global;
+use text_lines::{cut_line, cut_piece};
 
 fn push_set(stack: &mut Vec<RangeSet<i64>>, set: RangeSet<i64>) -> Result<(), AlgebraError>
     ensures pushed { OnOk result (stack.new.items ≡ stack.old.items ++ set ∷ []) }

@@ -5,16 +5,18 @@ ghost use Rattle.set_document.specs.Faults.{judge_word as judged, operator, faul
 ghost use Rattle.set_document.specs.Literals.{literal, literals, literals_of_words, literals_of_form};
 ghost use Rattle.set_document.specs.Names.{IsIndex};
 ghost use Rattle.set_document.specs.Steps.{IsFault, IsFirstFault};
-ghost use Rattle.set_document.specs.Text.{words, form};
+ghost use Rattle.text_lines.specs.Lines.{words};
+ghost use Rattle.set_document.specs.Text.{form};
 ghost use Rattle.set_document.specs.Words.{shown};
 ghost use Rattle.set_document.specs.declared.fault.AlgebraError.TheVariants as AlgebraError;
 
 use crate::fault::AlgebraError;
-use crate::line::{LineForm, cut_line, cut_piece, read_line};
+use crate::line::{LineForm, read_line};
 use crate::names::Names;
 use crate::word::{Word, read_word};
 use range_map::Range;
 use std::alloc::Global;
+use text_lines::{cut_line, cut_piece};
 
 // The number of sets after an operator that needs so many.
 fn judge_operator(

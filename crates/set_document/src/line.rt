@@ -1,11 +1,12 @@
-//! Reads the lines of a document, and cuts a line into words.
+//! Reads the lines of a document.
 ghost use Rattle.std.specs.Prelude.{◌≡◌, ◌+◌, ◌<◌, ◌≤◌, ◌==◌, ◌∷◌, ◌++◌, length, List, Option, option_copied};
 ghost use Rattle.std.specs.List.{slice_split, prefix_len};
-ghost use Rattle.set_document.specs.Text.{lines, form, form_of_body, form_of_named, form_after, is_letter, is_name, words};
+ghost use Rattle.text_lines.specs.Lines.{lines, words};
+ghost use Rattle.set_document.specs.Text.{form, form_of_body, form_of_named, form_after, is_letter, is_name};
 ghost use Rattle.set_document.specs.Words.{shown_form};
-ghost use Rattle.set_document.specs.Steps.{left_len};
+ghost use Rattle.text_lines.specs.Lines.{left_len};
 
-use crate::word::{Name, first_place, is_letters};
+use crate::word::{Name, is_letters};
 
 /// The form of one line.
 #[derive(Clone, Copy, PartialEq, Eq, Debug)]
@@ -17,34 +18,6 @@ pub enum LineForm<'t> {
     Named(Name<'t>, Option<&'t [u8]>),
     /// Every other line.
     Bad,
-}
-
-// The first piece between single spaces, and what follows the space behind it.
-pub(crate) fn cut_piece<'t>(bytes: &'t [u8]) -> (&'t [u8], Option<&'t [u8]>)
-    ensures cut { slice_split (λ b. b == 32) bytes.now ≡ result.0.now ∷ words
-        (option_copied result.1) }
-    ensures shorter { left_len (option_copied result.1) ≤ length bytes.now }
-{
-    let at = first_place(bytes, b' ');
-    if at < bytes.len() {
-        (&bytes[..at], Some(&bytes[at + 1..]))
-    } else {
-        (bytes, None)
-    }
-}
-
-// The first line of a text, and what follows it.
-pub(crate) fn cut_line<'t>(text: &'t [u8]) -> (&'t [u8], &'t [u8])
-    requires { 0 < length text.now }
-    ensures lines { lines text.now ≡ result.0.now ∷ lines result.1.now }
-    ensures shorter { length result.1.now < length text.now }
-{
-    let at = first_place(text, b'\n');
-    if at < text.len() {
-        text.split_at(at + 1)
-    } else {
-        text.split_at(at)
-    }
 }
 
 // How many letters of `a` to `z` stand at the front.

@@ -1,16 +1,17 @@
 //! The plain reading of a document's meaning, one number at a time. Tests compare every evaluator
 //! with it.
 ghost use Rattle.std.specs.Prelude.{◌≡◌, ◌<◌, ◌++◌, ◌∷◌, [], IfOk, OnOk, MatchOption, length, reverse, map, List, option_map, option_copied};
-ghost use Rattle.set_document.specs.Text.{words};
+ghost use Rattle.text_lines.specs.Lines.{words};
 ghost use Rattle.set_document.specs.Truth.{at, named, latest, after_word, after_words};
 ghost use Rattle.truth_blocks.specs.Stack.{last_value};
 ghost use Rattle.set_document.specs.Words.{letters, shown};
 ghost use Rattle.set_document.specs.Lines.{pairs_of};
 
-use crate::line::{LineForm, cut_line, cut_piece, read_line};
+use crate::line::{LineForm, read_line};
 use crate::word::{Name, Word, read_word};
 use element_core::NoMemory;
 use std::alloc::Global;
+use text_lines::{cut_line, cut_piece};
 
 // A named line, and what it gives at the number in question.
 #[derive(Clone, Copy)]

@@ -5,6 +5,7 @@ ghost use Rattle.set_document.specs.Text.{kind, is_letters, is_letter, span, spa
 ghost use Rattle.set_document.specs.Words.{letters, shown};
 
 use crate::number::read_number;
+use text_lines::first_place;
 
 /// A name of a document: a borrowed part of its text, one or more letters of `a` to `z`. Names are
 /// ordered by their bytes, and a name comes before each longer one that begins with it.
@@ -52,18 +53,6 @@ pub enum Word<'t> {
     Minus,
     /// Puts the numbers of just one in place of the last two sets.
     Xor,
-}
-
-// Where a byte first stands in a piece, or the piece's length.
-pub(crate) fn first_place(piece: &[u8], byte: u8) -> usize
-    ensures place { result ≡ position_or_len (λ c. c == byte) piece.now }
-    ensures bound { result ≤ length piece.now }
-{
-    let mut at = 0;
-    while at < piece.len() && piece[at] != byte {
-        at += 1;
-    }
-    at
 }
 
 // Whether the piece is one letter of `a` to `z` or more.

@@ -1,7 +1,7 @@
 use Rattle.std.proofs.Common.{◌≡◌, [], get_or, arith, ◌∙◌, refl}
 use Rattle.std.specs.Prelude.{pos, option_copied}
 use Rattle.std.proofs.lemmas.Grind.{common_steps}
-use Rattle.set_document.specs.Text.{lines}
+use Rattle.text_lines.specs.Lines.{lines}
 use Rattle.set_document.proofs.CompileLemmas.{compile_begin, compile_turn, compile_end, compile_names}
 use Rattle.set_document.proofs.compile.compile.Goals as goal
 

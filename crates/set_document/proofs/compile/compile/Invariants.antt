@@ -1,6 +1,6 @@
 use Rattle.std.proofs.Common.{◌≡◌, ℕ, ◌<◌, length, get_or}
 use Rattle.std.specs.Prelude.{pos}
-use Rattle.set_document.specs.Text.{lines}
+use Rattle.text_lines.specs.Lines.{lines}
 use Rattle.set_document.specs.Truth.{at, named}
 use Rattle.set_document.specs.Names.{IsIndex}
 use Rattle.set_document.proofs.TruthLemmas.{lines_at}

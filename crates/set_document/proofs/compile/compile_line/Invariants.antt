@@ -1,8 +1,8 @@
 use Rattle.std.proofs.Common.{◌≡◌, ℕ, ◌<◌, List, [], length, get_or, map}
 use Rattle.std.specs.Prelude.{Bool, pos, option_copied}
-use Rattle.set_document.specs.Text.{words}
+use Rattle.text_lines.specs.Lines.{words}
 use Rattle.set_document.specs.Truth.{after_words}
-use Rattle.set_document.specs.Steps.{left_len}
+use Rattle.text_lines.specs.Lines.{left_len}
 use Rattle.truth_blocks.specs.Blocks.{after_steps}
 use Rattle.set_document.specs.Compile.{known}
 use Rattle.set_document.proofs.compile.compile_line.Given as goal

@@ -1,7 +1,8 @@
 use Rattle.std.proofs.Common.{◌≡◌}
 use Rattle.std.specs.Prelude.{option_copied}
 use Rattle.number_line.specs.Ranges.{holds}
-use Rattle.set_document.specs.Text.{words, form, Named}
+use Rattle.text_lines.specs.Lines.{words}
+use Rattle.set_document.specs.Text.{form, Named}
 use Rattle.set_document.specs.Truth.{truth}
 use Rattle.set_document.specs.Lines.{lines_of}
 use Rattle.set_document.proofs.EvaluateLemmas.{push_agrees, agree_refl, lines_of_push}

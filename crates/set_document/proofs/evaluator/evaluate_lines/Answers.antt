@@ -1,5 +1,6 @@
 use Rattle.std.proofs.Common.{◌∙◌, arith}
-use Rattle.set_document.specs.Text.{lines, form}
+use Rattle.text_lines.specs.Lines.{lines}
+use Rattle.set_document.specs.Text.{form}
 use Rattle.set_document.specs.Truth.{after_form}
 use Rattle.set_document.specs.Lines.{lines_of, names_of}
 use Rattle.set_document.proofs.EvaluateLemmas.{after_lines_agrees, fault_turn}

@@ -1,5 +1,5 @@
 use Rattle.std.proofs.Common.{◌≡◌, ◌+◌, ◌≤◌, length}
-use Rattle.set_document.specs.Text.{lines}
+use Rattle.text_lines.specs.Lines.{lines}
 use Rattle.set_document.specs.Truth.{after_lines, named}
 use Rattle.set_document.specs.Faults.{fault_from, first_fault}
 use Rattle.set_document.specs.Lines.{lines_of, names_of, Agree, AllCanonical}

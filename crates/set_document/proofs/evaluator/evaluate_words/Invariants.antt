@@ -2,11 +2,11 @@
 use Rattle.std.proofs.Common.{◌≡◌, ◌+◌, ◌≤◌, length, []}
 use Rattle.std.specs.Prelude.{ℤ, ◌≤ℤ◌, option_copied}
 use Rattle.set_document.specs.Numbers.{least, greatest}
-use Rattle.set_document.specs.Text.{words}
+use Rattle.text_lines.specs.Lines.{words}
 use Rattle.set_document.specs.Truth.{at, after_words}
 use Rattle.set_document.specs.Faults.{fault_in_words}
 use Rattle.set_document.specs.Lines.{values, lines_of, names_of}
-use Rattle.set_document.specs.Steps.{left_len}
+use Rattle.text_lines.specs.Lines.{left_len}
 use Rattle.set_document.proofs.evaluator.evaluate_words.Given as goal
 
 abbrev pub invariant-loop-left : goal.invariant-loop-left

@@ -1,6 +1,6 @@
 use Rattle.std.proofs.Common.{◌∙◌, arith, append_assoc}
 use Rattle.set_document.specs.Compile.{known}
-use Rattle.set_document.specs.Text.{lines}
+use Rattle.text_lines.specs.Lines.{lines}
 use Rattle.set_document.proofs.EvaluateLemmas.{fault_turn}
 use Rattle.set_document.proofs.judge.judge.Goals as goal
 

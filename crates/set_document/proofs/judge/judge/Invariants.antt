@@ -4,7 +4,7 @@ use Rattle.set_document.specs.Compile.{known}
 use Rattle.set_document.specs.Faults.{fault_from, first_fault}
 use Rattle.set_document.specs.Literals.{literals, literals_of}
 use Rattle.set_document.specs.Names.{IsIndex}
-use Rattle.set_document.specs.Text.{lines}
+use Rattle.text_lines.specs.Lines.{lines}
 use Rattle.set_document.proofs.judge.judge.Given as goal
 
 abbrev pub invariant-loop-rest : goal.invariant-loop-rest

@@ -4,8 +4,8 @@ use Rattle.std.specs.Prelude.{option_copied}
 use Rattle.set_document.specs.Compile.{known}
 use Rattle.set_document.specs.Faults.{fault_in_words}
 use Rattle.set_document.specs.Literals.{literals_of_words}
-use Rattle.set_document.specs.Steps.{left_len}
-use Rattle.set_document.specs.Text.{words}
+use Rattle.text_lines.specs.Lines.{left_len}
+use Rattle.text_lines.specs.Lines.{words}
 use Rattle.set_document.proofs.judge.judge_words.Given as goal
 
 abbrev pub invariant-loop-left : goal.invariant-loop-left

@@ -1,7 +1,7 @@
 use Rattle.std.proofs.Common.{◌≡◌, [], sym, ◌∙◌, to_z, of_z, w64}
 use Rattle.std.specs.Prelude.{option_copied}
 use Rattle.std.proofs.lemmas.List.{map-append}
-use Rattle.set_document.specs.Text.{lines, words}
+use Rattle.text_lines.specs.Lines.{lines, words}
 use Rattle.set_document.specs.Truth.{after_words}
 use Rattle.truth_blocks.specs.Stack.{last_value}
 use Rattle.set_document.specs.Words.{letters}

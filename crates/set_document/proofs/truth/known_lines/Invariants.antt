@@ -1,6 +1,6 @@
 -- What the lines left add to what is held is what the whole text gives.
 use Rattle.std.proofs.Common.{◌≡◌, length}
-use Rattle.set_document.specs.Text.{lines}
+use Rattle.text_lines.specs.Lines.{lines}
 use Rattle.set_document.specs.Truth.{at, named}
 use Rattle.set_document.specs.Lines.{pairs_of}
 use Rattle.set_document.proofs.TruthLemmas.{lines_at}

@@ -1,9 +1,9 @@
 use Rattle.std.proofs.Common.{◌≡◌, [], reverse}
 use Rattle.std.specs.Prelude.{option_copied}
-use Rattle.set_document.specs.Text.{words}
+use Rattle.text_lines.specs.Lines.{words}
 use Rattle.set_document.specs.Truth.{after_words}
 use Rattle.set_document.specs.Lines.{pairs_of}
-use Rattle.set_document.specs.Steps.{left_len}
+use Rattle.text_lines.specs.Lines.{left_len}
 use Rattle.set_document.proofs.truth.line_truth.Given as goal
 
 abbrev pub invariant-loop-left : goal.invariant-loop-left

@@ -1,7 +1,7 @@
 use Rattle.std.proofs.Common.{◌≡◌, ◌+◌, ◌≤◌, length, drop, ◌-◌}
 use Rattle.std.specs.Prelude.{◌==◌}
 use Rattle.std.specs.List.{position_or_len}
-use Rattle.set_document.proofs.word.first_place.Given as goal
+use Rattle.text_lines.proofs.line.first_place.Given as goal
 
 abbrev pub invariant-loop-at : goal.invariant-loop-at
 invariant-loop-at l = (l.at ≤ length l.piece) × (position_or_len (λ c. c == l.byte) l.piece ≡ l.at + position_or_len (λ c. c == l.byte) (drop l.at l.piece))

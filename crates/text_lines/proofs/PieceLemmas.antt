@@ -1,12 +1,12 @@
 -- A text that is put together of lines, and a line that is put together of words, come apart again.
-use Rattle.std.proofs.Common.{◌≡◌, ℕ, ◌+◌, ◌-◌, ◌≤◌, List, [], ◌∷◌, ◌++◌, length, refl, ◌∙◌, arith, append_assoc}
+use Rattle.std.proofs.Common.{◌≡◌, ℕ, ◌+◌, ◌-◌, ◌≤◌, List, [], ◌∷◌, ◌++◌, length, take, refl, ◌∙◌, arith, append_assoc}
 use Rattle.std.specs.Prelude.{Bool, true, false, ◌==◌, nat_le, nat_lt, slice_index, map, flat_map}
 use Rattle.std.specs.List.{slice_split, list_all, prefix_len, AllByRecursion}
 use Rattle.std.proofs.lemmas.Bool.{and_from, lt-ltb}
 use Rattle.std.proofs.lemmas.Bool.Decides.{nat_tests}
 use Rattle.std.proofs.lemmas.List.{length_push, get_or_at, take_at}
 use Rattle.std.proofs.lemmas.List.Folds.{list_all-append}
-use Rattle.set_document.specs.Text.{lines, form, form_of_body}
+use Rattle.text_lines.specs.Lines.{lines, ends_with_feed}
 
 pub all_weaken : (p q : ℕ → Bool) → ((b : ℕ) → p b ≡ true → q b ≡ true) → (bytes : List ℕ) → list_all p bytes ≡ true
     → list_all q bytes ≡ true
@@ -58,10 +58,15 @@ pub prefix_whole : (q : ℕ → Bool) (front : List ℕ) (b : ℕ) (rest : List 
 prefix_whole q [] b rest h e = rw e refl
 prefix_whole q (c ∷ front) b rest h e = grind (arith, prefix_whole q front b rest)
 
--- a line's form is that of what stands before its line feed
-pub form_before_feed : (body : List ℕ) → form (body ++ 10 ∷ []) ≡ form_of_body body
-form_before_feed body =
+-- what stands before a line feed
+pub feed_ends : (body : List ℕ) → ends_with_feed (body ++ 10 ∷ []) ≡ true
+feed_ends body =
     let m : (length body + 1) - 1 ≡ length body = omega arith in
     let l : nat_lt 0 (length body + 1) ≡ true = lt-ltb 0 (length body + 1) (omega arith) in
     let b : slice_index (body ++ 10 ∷ []) (length body) ≡ 10 = get_or_at body 10 [] 0 (length body) refl in
-    rw (length_push body 10, m, l, b, take_at body (10 ∷ []) (length body) refl) refl
+    rw (length_push body 10, m, l, b) refl
+
+pub before_feed : (body : List ℕ) → take (length (body ++ 10 ∷ []) - 1) (body ++ 10 ∷ []) ≡ body
+before_feed body =
+    let m : (length body + 1) - 1 ≡ length body = omega arith in
+    rw (length_push body 10, m) (take_at body (10 ∷ []) (length body) refl)

@@ -1,3 +1,4 @@
+-- What is read of a number: its sign, its digits and its value.
 use Rattle.std.proofs.Common.{◌≡◌, ◌≢◌, ℕ, ◌≤◌, List, [], ◌∷◌, drop, refl, ap, arith, cond, w64}
 use Rattle.std.specs.Prelude.{ℤ, pos, negsuc, neg_ℤ, Bool, true, false, not, ◌&&◌, nat_le, ◌==◌, if◌then◌else◌, bytes_eq, codes, Some, None, Result, Ok, Err, FitsSigned}
 use Rattle.std.proofs.lemmas.Bool.Decides.{nat_tests}
@@ -8,8 +9,8 @@ use Rattle.std.specs.Result.{result_ok}
 use Rattle.std.proofs.lemmas.Str.{IsUtf8-from_ascii}
 use Rattle.std.proofs.lemmas.Str.Ascii.{IsAscii-cons}
 use Rattle.std.proofs.lemmas.Fmt.{IsAscii-from_digits}
-use Rattle.set_document.specs.Numbers.{least, greatest}
-use Rattle.set_document.specs.Text.{is_decimal, has_number_form, in_i64, number}
+use Rattle.std.specs.Int.{Width}
+use Rattle.text_lines.specs.Decimals.{is_decimal, has_number_form, is_between, number_between}
 
 pub own : IsNumeralModel (λ ds. all_ascii_digits ds ≡ true) (digits_value 10)
 own = numerals_by_value _ tells_all_ascii_digits
@@ -49,22 +50,34 @@ below a b e = grind (arith, nat_tests)
 is_below : (a b : ℕ) → a ≤ b → nat_le a b ≡ true
 is_below a b e = grind (arith, nat_tests)
 
-pub in_i64_fits : (z : ℤ) → in_i64 z ≡ true → FitsSigned w64 z
-unfolding least greatest
-in_i64_fits (pos n) e = let k : n ≤ 9223372036854775807 = below n 9223372036854775807 e in record { sfits = omega arith }
-in_i64_fits (negsuc n) e = let k : n ≤ 9223372036854775807 = below n 9223372036854775807 (and_left (nat_le n 9223372036854775807) true e) in record { sfits = omega arith }
+-- the numbers between two ends are those that fit so many bits
+pub record AreEnds (w : Width) (lo hi : ℤ) : Type 0 where
+  pub fit : (z : ℤ) → is_between lo hi z ≡ true → FitsSigned w z
+  pub hold : (z : ℤ) → FitsSigned w z → is_between lo hi z ≡ true
 
-pub fits_in_i64 : (z : ℤ) → FitsSigned w64 z → in_i64 z ≡ true
-unfolding least greatest
-fits_in_i64 (pos n) e = is_below n 9223372036854775807 (omega (arith, e.sfits))
-fits_in_i64 (negsuc n) e = let k : nat_le n 9223372036854775807 ≡ true = is_below n 9223372036854775807 (omega (arith, e.sfits)) in rw k
-
-pub number_parsed : {E : Type 0} (bs : List ℕ) (r : Result ℤ E) → has_number_form bs ≡ true → ParsesSigned w64 10 bs r → result_ok r ≡ number bs
-number_parsed bs (Ok v) f p = let i = fits_in_i64 (signed_digits_value 10 bs) p.0.1 in rw (f, i) (ap Some p.1)
-number_parsed bs (Err e) f p = at (in_i64 (signed_digits_value 10 bs)) refl
+pub ends_of_i64 : AreEnds w64 (negsuc 9223372036854775807) (pos 9223372036854775807)
+ends_of_i64 = record { fit = fit; hold = hold }
   where
-    at : (b : Bool) → in_i64 (signed_digits_value 10 bs) ≡ b → None ≡ number bs
-    at true h = absurd (p (form_numeral bs f, in_i64_fits (signed_digits_value 10 bs) h))
+    fit : (z : ℤ) → is_between (negsuc 9223372036854775807) (pos 9223372036854775807) z ≡ true → FitsSigned w64 z
+    fit (pos n) e = let k : n ≤ 9223372036854775807 = below n 9223372036854775807 e in record { sfits = omega arith }
+    fit (negsuc n) e =
+        let k : n ≤ 9223372036854775807 = below n 9223372036854775807 (and_left (nat_le n 9223372036854775807) true e) in
+        record { sfits = omega arith }
+
+    hold : (z : ℤ) → FitsSigned w64 z → is_between (negsuc 9223372036854775807) (pos 9223372036854775807) z ≡ true
+    hold (pos n) e = is_below n 9223372036854775807 (omega (arith, e.sfits))
+    hold (negsuc n) e =
+        let k : nat_le n 9223372036854775807 ≡ true = is_below n 9223372036854775807 (omega (arith, e.sfits)) in rw k
+
+-- what std parses of a number's form is the number between the type's ends
+pub number_parsed : {E : Type 0} (w : Width) (lo hi : ℤ) (bs : List ℕ) (r : Result ℤ E) → AreEnds w lo hi → has_number_form bs ≡ true
+    → ParsesSigned w 10 bs r → result_ok r ≡ number_between lo hi bs
+number_parsed w lo hi bs (Ok v) ends f p =
+    let i = ends.hold (signed_digits_value 10 bs) p.0.1 in rw (f, i) (ap Some p.1)
+number_parsed w lo hi bs (Err e) ends f p = at (is_between lo hi (signed_digits_value 10 bs)) refl
+  where
+    at : (b : Bool) → is_between lo hi (signed_digits_value 10 bs) ≡ b → None ≡ number_between lo hi bs
+    at true h = absurd (p (form_numeral bs f, ends.fit (signed_digits_value 10 bs) h))
     at false h = rw (f, h)
 
 -- a number is text

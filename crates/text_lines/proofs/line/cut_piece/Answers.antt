@@ -1,8 +1,8 @@
 use Rattle.std.proofs.Common.{◌≡◌, arith, take, drop, length, ◌+◌, ◌-◌, length-drop}
 use Rattle.std.proofs.lemmas.List.{take_all}
-use Rattle.set_document.proofs.CutLemmas.{split_cut, split_whole}
+use Rattle.text_lines.proofs.CutLemmas.{split_cut, split_whole}
 use Rattle.std.specs.Prelude.{◌==◌}
-use Rattle.set_document.proofs.line.cut_piece.Goals as goal
+use Rattle.text_lines.proofs.line.cut_piece.Goals as goal
 
 pub returns-then-at-bytes-clause-cut : goal.returns-then-at-bytes-clause-cut
 returns-then-at-bytes-clause-cut c =

@@ -1,7 +1,8 @@
+-- A text is cut at its first line feed, and a line at its first space.
 use Rattle.std.proofs.Common.{◌≡◌, ℕ, suc, ◌<◌, ◌≤◌, ◌+◌, List, [], ◌∷◌, length, take, drop, refl, arith, cond}
 use Rattle.std.specs.Prelude.{Bool, true, false, not, ◌==◌, if◌then◌else◌}
 use Rattle.std.specs.List.{slice_split, onto_first, position_or_len}
-use Rattle.set_document.specs.Text.{lines}
+use Rattle.text_lines.specs.Lines.{lines}
 
 -- a list is cut at the first element that passes
 pub split_cut : {X : Type 0} (p : X → Bool) (xs : List X) → position_or_len p xs < length xs

@@ -1,7 +1,7 @@
 use Rattle.std.proofs.Common.{◌≡◌, arith, [], take, drop, length-drop}
 use Rattle.std.proofs.lemmas.List.{take_all, nil_from_length}
-use Rattle.set_document.proofs.CutLemmas.{lines_cut, lines_whole}
-use Rattle.set_document.proofs.line.cut_line.Goals as goal
+use Rattle.text_lines.proofs.CutLemmas.{lines_cut, lines_whole}
+use Rattle.text_lines.proofs.line.cut_line.Goals as goal
 
 pub returns-then-at-text-clause-lines : goal.returns-then-at-text-clause-lines
 returns-then-at-text-clause-lines c =

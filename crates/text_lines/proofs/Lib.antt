@@ -1,0 +1,5 @@
+pub mod CutLemmas
+pub mod PieceLemmas
+pub mod ReaderLemmas
+pub mod DecimalLemmas
+pub mod FaultLemmas
