@@ -51,7 +51,7 @@ tiles_end end at (b ∷ rest) t = let h : at + size b.1 ≤ end = tiles_end end 
 fewest_from : (end b m k : ℕ) (tiling blocks : List (ℕ × ℕ)) → IsTiling end m tiling → Tiles end b blocks
     → b ≤ m → m < b + 2 ^ k → Multiple (2 ^ k) m → length tiling ≤ length blocks
 fewest_from end b m k [] blocks g t low near mul = omega arith
-fewest_from end b m k (x ∷ xs) [] g t low near mul = let p = pow_pos (32 - x.1) in absurd (omega (arith, g.2))
+fewest_from end b m k (x ∷ xs) [] g t low near mul = let p = pow_pos (32 - x.1) in let f = g.1.fits in absurd (omega arith)
 fewest_from end b m k (x ∷ xs) (y ∷ ys) g t low near mul =
     by_lt b m
     (λ h.

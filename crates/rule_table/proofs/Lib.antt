@@ -1,6 +1,8 @@
+pub mod AddressLemmas
 pub mod BlockLemmas
 pub mod DeadLemmas
 pub mod DecisionLemmas
+pub mod DocumentLemmas
 pub mod HolderLemmas
 pub mod HoldsLemmas
 pub mod LengthLemmas
