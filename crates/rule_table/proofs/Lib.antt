@@ -1,5 +1,6 @@
 pub mod AddressLemmas
 pub mod BlockLemmas
+pub mod CallerLemmas
 pub mod DeadLemmas
 pub mod DecisionLemmas
 pub mod DocumentLemmas

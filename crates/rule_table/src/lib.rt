@@ -8,6 +8,8 @@
 
 mod address;
 mod blocks;
+#[cfg(test)]
+mod callers;
 mod document;
 mod fault;
 pub mod laws;

@@ -1,7 +1,7 @@
 //! What no contract shows: that the calls succeed where memory suffices, and answers that people
 //! know.
-use crate::print::print_table;
-use crate::{Decision, Rule, RuleError, RuleTable, rules_document};
+use crate::callers::{may_pass, with_ban};
+use crate::{Decision, Rule, RuleTable, rules_document};
 use range_map::Range;
 use std::alloc::Global;
 use std::process::Abort;
@@ -81,37 +81,6 @@ fn smallest_and_largest_address(rt: HostRuntime) -> Result<(), Fail> {
     Ok(())
 }
 
-#[test]
-fn segments_then_blocks_then_dead_rules(rt: HostRuntime) -> Result<(), Fail> {
-    let rules = [
-        allow(Range::new(0x0A00_0000, 0x0A00_0009)),
-        deny(Range::single(0x0A00_0005)),
-        allow(Range::new(0x0A00_0006, 0x0A00_0007)),
-        allow(Range::new(0x0A00_0006, 0x0A00_0007)),
-    ];
-    let wanted = "0.0.0.0-9.255.255.255 none\n\
-        10.0.0.0-10.0.0.4 allow\n10.0.0.5-10.0.0.5 deny\n10.0.0.6-10.0.0.9 allow\n\
-        10.0.0.10-255.255.255.255 none\n\
-        block 10.0.0.0/30\nblock 10.0.0.4/32\nblock 10.0.0.6/31\nblock 10.0.0.8/31\n\
-        dead 3\n";
-    let written = print_table(rt.alloc(), &rules, &[1, 2, 3, 4])?;
-    assert!(rt; written.as_slice() == wanted.as_bytes());
-    Ok(())
-}
-
-#[test]
-fn blocks_at_both_ends(rt: HostRuntime) -> Result<(), Fail> {
-    let alloc = rt.alloc();
-    let written = print_table(alloc, &[allow(Range::full())], &[1])?;
-    let wanted = "0.0.0.0-255.255.255.255 allow\nblock 0.0.0.0/0\n";
-    assert!(rt; written.as_slice() == wanted.as_bytes());
-    let written = print_table(alloc, &[allow(Range::new(u32::MAX - 2, u32::MAX))], &[1])?;
-    let wanted = "0.0.0.0-255.255.255.252 none\n255.255.255.253-255.255.255.255 allow\n\
-        block 255.255.255.253/32\nblock 255.255.255.254/31\n";
-    assert!(rt; written.as_slice() == wanted.as_bytes());
-    Ok(())
-}
-
 // The answer to a text, or the text of its fault.
 fn answer_of(alloc: Global, text: &str) -> Result<String, Fail> {
     match rules_document(alloc, text.as_bytes()) {
@@ -130,6 +99,16 @@ fn texts_and_their_answers(rt: HostRuntime) -> Result<(), Fail> {
                 block 10.0.0.4/32\nblock 10.0.0.6/31\nblock 10.0.0.8/31\ndead 3\n",
         ),
         ("", "0.0.0.0-255.255.255.255 none\n"),
+        (
+            "allow 0.0.0.0/0\n",
+            "0.0.0.0-255.255.255.255 allow\nblock 0.0.0.0/0\n",
+        ),
+        (
+            "deny 0.0.0.0\nallow 255.255.255.253-255.255.255.255\n",
+            "0.0.0.0-0.0.0.0 deny\n0.0.0.1-255.255.255.252 none\n\
+                255.255.255.253-255.255.255.255 allow\nblock 255.255.255.253/32\n\
+                block 255.255.255.254/31\n",
+        ),
         (
             "# all but one\nallow 0.0.0.0/0\n#\ndeny 255.255.255.255/32\n",
             "0.0.0.0-255.255.255.254 allow\n255.255.255.255-255.255.255.255 deny\n\
@@ -176,6 +155,19 @@ fn the_first_fault_is_the_answer(rt: HostRuntime) -> Result<(), Fail> {
     ];
     for (text, fault) in known {
         assert_eq!(rt; answer_of(rt.alloc(), text)?.as_str(), fault);
+    }
+    Ok(())
+}
+
+#[test]
+fn a_ban_is_the_last_word(rt: HostRuntime) -> Result<(), Fail> {
+    let rules = [allow(Range::full()), deny(Range::single(7))];
+    let table = with_ban(rt.alloc(), &rules, Range::new(10, 20))?;
+    for x in [0, 9, 21, u32::MAX] {
+        assert!(rt; may_pass(&table, x), "at {x}");
+    }
+    for x in [7, 10, 20] {
+        assert!(rt; !may_pass(&table, x), "at {x}");
     }
     Ok(())
 }
