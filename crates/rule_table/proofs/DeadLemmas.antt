@@ -1,20 +1,15 @@
 -- The test of dead rules says that they are.
-use Rattle.std.proofs.Common.{rules, ◌≤◌, ◌<◌, ◌≡◌, ℕ, zero, suc, ◌-◌, ◌^◌, List, length, refl, ap, arith}
-use Rattle.std.specs.Prelude.{ℤ, pos, ◌+ℤ◌, ◌≤ℤ◌, Bool, true, false, ◌||◌, Option, Some, None, nat_eq, nat_lt, IsNone, IfSome, ◌↔◌, unwrap_or}
+use Rattle.std.proofs.Common.{rules, ◌≤◌, ◌≡◌, ℕ, zero, suc, ◌-◌, ◌^◌, List, length, refl, ap, arith}
+use Rattle.std.specs.Prelude.{ℤ, pos, ◌+ℤ◌, ◌≤ℤ◌, Bool, true, false, ◌||◌, Option, Some, None, nat_eq, nat_lt, IsNone, IfSome, ◌↔◌}
 use Rattle.std.specs.Bool.{MatchBool}
 use Rattle.std.specs.Option.{option_eq}
 use Rattle.std.proofs.lemmas.Bool.Decides.{Decides-eqb}
 use Rattle.std.proofs.lemmas.Int.{ints, by_lt_z}
 use Rattle.number_line.proofs.PlacedLemmas.{by_cases}
+use Rattle.rule_table.proofs.WinnerLemmas.{some_place}
 use Rattle.rule_table.specs.Rules.{winner, IsAddress, IsDead, Wins}
 use Rattle.rule_table.specs.Dead.{is_given_among, is_dead, dead_at}
 use Rattle.rule_table.specs.Laws.{DeadWinsNowhere}
-
-some_place : (a b : Option ℕ) → option_eq nat_eq a b ≡ true → a ≡ b
-some_place None None e = refl
-some_place None (Some b) e = cc
-some_place (Some a) None e = cc
-some_place (Some a) (Some b) e = ap Some ((Decides-eqb a b).0 e)
 
 same_place : (i : ℕ) (a : Option ℕ) → a ≡ Some i → option_eq nat_eq a (Some i) ≡ true
 same_place i None e = cc
@@ -51,32 +46,6 @@ given_then f i lo (suc n) e = by_cases (option_eq nat_eq (f lo) (Some i))
     let high = g.high in
     record { at = g.at; low = omega (arith, ints); high = omega (arith, ints); value = g.value })
 
--- a mark is the test
-pub mark_is_test : {D : Type 0} (rules : List ((ℤ × ℤ) × D)) (i : ℕ) (b : Bool) → MatchBool b (IsDead rules i) (Wins rules i) → b ≡ is_dead rules i
-unfolding is_dead
-mark_is_test rules i true dead = by_cases (is_given_among (winner rules) i (pos 0) (2 ^ 32 - 1))
-    (λ e.
-    let g : GivenAt (winner rules) i (pos 0) (2 ^ 32 - 1) = given_then (winner rules) i (pos 0) (2 ^ 32 - 1) e in
-    let high = g.high in
-    absurd (dead g.at (record { low = g.low; high = omega (arith, ints) }) g.value))
-    (λ e. rw e refl)
-mark_is_test rules i false won =
-    let a : IsAddress won.0 = won.1 in
-    let low = a.low in
-    let high = a.high in
-    rw (given_if (winner rules) i (pos 0) (2 ^ 32 - 1) won.0 a.low (omega (arith, ints)) won.2) refl
-
-pub answer_is : {D : Type 0} (rules : List ((ℤ × ℤ) × D)) (n i : ℕ) (r : Option Bool) → length rules ≡ n → IsNone r ↔ (n ≤ i)
-    → IfSome r (λ b. MatchBool b (IsDead rules i) (Wins rules i)) → r ≡ dead_at rules i
-answer_is list n i None e iff m = let h : n ≤ i = iff.0 (search rules) in let t : nat_lt i (length list) ≡ false = grind arith in rw t refl
-answer_is list n i (Some b) e iff m = by_cases (nat_lt i (length list))
-    (λ t. rw t (ap Some (mark_is_test list i b m)))
-    (λ t. let h : n ≤ i = grind arith in let none : IsNone (Some b) = iff.1 h in absurd (search (rules, none)))
-
--- within the rules the answer is the test
-pub answer_within : {D : Type 0} (rules : List ((ℤ × ℤ) × D)) (i : ℕ) → i < length rules → unwrap_or (dead_at rules i) false ≡ is_dead rules i
-answer_within rules i h = let t : nat_lt i (length rules) ≡ true = grind arith in rw t refl
-
 -- the test is true of the rules that win nowhere, and false of those that win
 pub dead_wins_nowhere : {D : Type 0} → DeadWinsNowhere D
 unfolding is_dead
@@ -91,3 +60,20 @@ dead_wins_nowhere list i = by_cases (is_given_among (winner list) i (pos 0) (2 ^
     let high = a.high in
     let t : is_given_among (winner list) i (pos 0) (2 ^ 32 - 1) ≡ true = given_if (winner list) i (pos 0) (2 ^ 32 - 1) x a.low (omega (arith, ints)) won in
     cc))
+
+-- a mark is the test
+mark_is_test : {D : Type 0} (list : List ((ℤ × ℤ) × D)) (i : ℕ) (b : Bool) → MatchBool b (IsDead list i) (Wins list i) → b ≡ is_dead list i
+mark_is_test list i b m = alike b (is_dead list i) m (dead_wins_nowhere list i)
+  where
+    alike : (b d : Bool) → MatchBool b (IsDead list i) (Wins list i) → MatchBool d (IsDead list i) (Wins list i) → b ≡ d
+    alike true true m n = refl
+    alike true false dead won = absurd (dead won.0 won.1 won.2)
+    alike false true won dead = absurd (dead won.0 won.1 won.2)
+    alike false false m n = refl
+
+pub answer_is : {D : Type 0} (rules : List ((ℤ × ℤ) × D)) (n i : ℕ) (r : Option Bool) → length rules ≡ n → IsNone r ↔ (n ≤ i)
+    → IfSome r (λ b. MatchBool b (IsDead rules i) (Wins rules i)) → r ≡ dead_at rules i
+answer_is list n i None e iff m = let h : n ≤ i = iff.0 (search rules) in let t : nat_lt i (length list) ≡ false = grind arith in rw t refl
+answer_is list n i (Some b) e iff m = by_cases (nat_lt i (length list))
+    (λ t. rw t (ap Some (mark_is_test list i b m)))
+    (λ t. let h : n ≤ i = grind arith in let none : IsNone (Some b) = iff.1 h in absurd (search (rules, none)))

@@ -7,10 +7,8 @@ use Rattle.number_line.specs.Rows.{with_places}
 use Rattle.range_map.proofs.GrowthLemmas.{value_of_pair}
 use Rattle.blaze_joins.specs.LastValue.{last_value_at}
 use Rattle.rule_table.specs.Laws.{IsGreatestHolder, WinnerIsGreatest}
+use Rattle.rule_table.proofs.WinnerLemmas.{some_is}
 use Rattle.rule_table.proofs.DecisionLemmas.{Agree, agree, last_value-cons}
-
-some_is : {A : Type 0} {a b : A} → Some a ≡ Some b → a ≡ b
-some_is e = cc
 
 -- a place of k + j or more
 abbrev AtLeast : ℕ → Option ℕ → Type 0

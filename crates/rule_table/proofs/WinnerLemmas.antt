@@ -14,7 +14,8 @@ use Rattle.blaze_joins.specs.LastValue.{last_value_at}
 use Rattle.rule_table.specs.Rules.{winner}
 use Rattle.rule_table.specs.Winners.{AreWinners, ArePlacesBelow}
 
-some_place : (a b : Option ℕ) → option_eq nat_eq a b ≡ true → a ≡ b
+-- places that are the same to the test are the same
+pub some_place : (a b : Option ℕ) → option_eq nat_eq a b ≡ true → a ≡ b
 some_place None None e = refl
 some_place None (Some b) e = cc
 some_place (Some a) None e = cc
@@ -42,7 +43,7 @@ below_places : {D : Type 0} (n k : ℕ) (rules : List ((ℤ × ℤ) × D)) → k
 below_places n k [] h = tt
 below_places n k (r ∷ rules) h = (omega arith, below_places n (suc k) rules (omega arith))
 
-some_is : {A : Type 0} {a b : A} → Some a ≡ Some b → a ≡ b
+pub some_is : {A : Type 0} {a b : A} → Some a ≡ Some b → a ≡ b
 some_is e = cc
 
 value_below : (n : ℕ) (list : List ((ℤ × ℤ) × ℕ)) (x : ℤ) (i : ℕ) → ArePlacesBelow n list → value_at list x ≡ Some i → i < n

@@ -97,7 +97,7 @@ fn dead_of(
 }
 
 impl RuleTable {
-    /// The table of the rules, in their order. Takes O(n log n) time for n rules.
+    /// Returns the table of the rules, in their order. Takes O(n log n) time for n rules.
     pub fn build(alloc: Global, rules: &[Rule]) -> Result<RuleTable, NoMemory>
         ensures { IfOk result (λ table. table ≡ rules_in_numbers rules.now) }
     {
