@@ -1,0 +1,15 @@
+pub mod AddressLemmas
+pub mod BlockLemmas
+pub mod CallerLemmas
+pub mod DeadLemmas
+pub mod DecisionLemmas
+pub mod DocumentLemmas
+pub mod HolderLemmas
+pub mod HoldsLemmas
+pub mod LengthLemmas
+pub mod MarkLemmas
+pub mod TakenLemmas
+pub mod TilingLemmas
+pub mod TrailingLemmas
+pub mod WinnerLemmas
+pub mod WrittenLemmas

@@ -1,0 +1,13 @@
+pub mod Answer
+pub mod Blocks
+pub mod Dead
+pub mod Decisions
+pub mod Document
+pub mod Faults
+pub mod FaultText
+pub mod Laws
+pub mod Rules
+pub mod Shown
+pub mod Text
+pub mod Tiling
+pub mod Winners
