@@ -8,10 +8,16 @@ ghost use Rattle.sorted_vector_map.specs.Coming.{ComesByReference, ComesByValue,
 use crate::map::SortedVectorMap;
 
 mod borrowed;
+mod iter_mut;
+#[cfg(test)]
+pub(crate) mod iter_mut_tests;
 mod owned;
+mod values_mut;
 
 pub use borrowed::{Iter, Keys, Values};
+pub use iter_mut::IterMut;
 pub use owned::{IntoKeys, IntoValues};
+pub use values_mut::ValuesMut;
 
 impl<K: Ord, V> SortedVectorMap<K, V> {
     /// The pairs in the order of their keys. Made in O(1) time and without memory, as are the other

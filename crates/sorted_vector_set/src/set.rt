@@ -1,11 +1,15 @@
-//! The set: making one, putting items in, and taking them out.
-ghost use Rattle.std.specs.Prelude.{◌≡◌, ◌≤◌, ◌+◌, ◌==◌, not, [], length, IsTrue, IsOk, IfOk, IfErr, is_ok, if◌then◌else◌};
+//! The set: making one, looking into it, putting items in, and taking them out.
+ghost use Rattle.std.specs.Prelude.{Some, ◌≡◌, ◌≤◌, ◌<◌, ◌+◌, ◌-◌, ◌++◌, ◌==◌, not, [], length, slice_get, slice_set, IsTrue, IsOk, IfOk, IfErr, IfNone, is_ok, if◌then◌else◌};
+ghost use Rattle.std.specs.List.{insert as list_insert, remove as list_remove};
 ghost use Rattle.std.specs.List.Sorted.{IsStrictlySortedBy};
+ghost use Rattle.std.specs.Option.{option_copied, option_to_list};
 ghost use Rattle.ordered_lists.specs.Lists.{find, has, set, take_out};
+ghost use Rattle.ordered_lists.specs.Search.{IsFound, IsMissing};
 
 use element_core::{NoMemory, Refused};
 use std::alloc::Global;
 use std::marker::Model;
+use std::mem::replace;
 
 /// A set whose items lie in one vector, in ascending order. Equal items may differ in what their
 /// comparison doesn't look at, so each call says which one stays.
@@ -85,6 +89,38 @@ impl<T: Ord> SortedVectorSet<T> {
         self.items.is_empty()
     }
 
+    /// Whether an item is equal to `q`, in O(log n) comparisons and without memory.
+    pub fn contains(&self, q: &T) -> bool
+        ensures { result ≡ has T.cmp self.now.items q.now }
+    {
+        self.search(q).is_ok()
+    }
+
+    /// The item that is equal to `q`, or `None` where there is none, in O(log n) comparisons and
+    /// without memory.
+    pub fn get(&self, q: &T) -> Option<&T>
+        ensures { option_copied result ≡ find T.cmp self.now.items q.now }
+    {
+        match self.search(q) {
+            Ok(at) => Some(&self.items[at]),
+            Err(_) => None,
+        }
+    }
+
+    /// The least item, or `None` where the set is empty. It takes O(1) time and no memory.
+    pub fn first(&self) -> Option<&T>
+        ensures { option_copied result ≡ slice_get self.now.items 0 }
+    {
+        self.items.first()
+    }
+
+    /// The greatest item, or `None` where the set is empty. It takes O(1) time and no memory.
+    pub fn last(&self) -> Option<&T>
+        ensures { option_copied result ≡ slice_get self.now.items (length self.now.items - 1) }
+    {
+        self.items.last()
+    }
+
     /// Puts `value` in the place of the item that is equal to it, and answers that item. Without
     /// one, `value` is put in and the answer is `None`.
     ///
@@ -154,5 +190,73 @@ impl<T: Ord> SortedVectorSet<T> {
         ensures spare { self.old.spare ≤ self.new.spare }
     {
         self.take(value).is_some()
+    }
+
+    /// Takes the greatest item out, or answers `None` where the set is empty. It takes O(1) time
+    /// and no memory.
+    pub fn pop_last(&mut self) -> Option<T>
+        ensures items { self.old.items ≡ self.new.items ++ option_to_list result }
+        ensures none { IfNone result (self.old.items ≡ []) }
+        ensures spare { self.old.spare ≤ self.new.spare }
+    {
+        self.items.pop()
+    }
+
+    // The place of the item that is equal to q, or else that of q.
+    pub(crate) fn search(&self, q: &T) -> Result<usize, usize>
+        ensures found { IfOk result (IsFound (λ x. x) T.cmp self.now.items q.now) }
+        ensures missing { IfErr result (IsMissing (λ x. x) T.cmp self.now.items q.now) }
+    {
+        self.items.binary_search(q)
+    }
+
+    // The same. Items often come in order, so the end is tried first.
+    pub(crate) fn place_of(&self, q: &T) -> Result<usize, usize>
+        ensures found { IfOk result (IsFound (λ x. x) T.cmp self.now.items q.now) }
+        ensures missing { IfErr result (IsMissing (λ x. x) T.cmp self.now.items q.now) }
+    {
+        if let Some(last) = self.items.last() {
+            if last.cmp(q).is_lt() {
+                return Err(self.items.len());
+            }
+        }
+        self.search(q)
+    }
+
+    // Puts value in the place of the item that is equal to it, which is the answer.
+    fn replace_at(&mut self, at: usize, value: T) -> T
+        requires { IsFound (λ x. x) T.cmp self.old.items value at }
+        ensures items { self.new.items ≡ slice_set self.old.items at value }
+        ensures value { slice_get self.old.items at ≡ Some result }
+        ensures spare { self.new.spare ≡ self.old.spare }
+    {
+        replace(&mut self.items[at], value)
+    }
+
+    // Puts value in at its place, where no item is equal to it.
+    fn insert_at(&mut self, at: usize, value: T) -> Result<(), Refused<T>>
+        requires { IsMissing (λ x. x) T.cmp self.old.items value at }
+        ensures items { self.new.items ≡ (if is_ok result then list_insert self.old.items at value
+            else self.old.items) }
+        ensures given { IfErr result (λ refused. refused.given ≡ value) }
+        ensures roomy { 1 ≤ self.old.spare → IsOk result }
+        ensures spare { self.old.spare ≤ self.new.spare + (if is_ok result then 1 else 0) }
+    {
+        if let Err(refused) = self.items.insert(at, value) {
+            return Err(Refused {
+                given: refused.value,
+            });
+        }
+        Ok(())
+    }
+
+    // Takes the item there out.
+    fn remove_at(&mut self, at: usize) -> T
+        requires { at < length self.old.items }
+        ensures items { self.new.items ≡ list_remove self.old.items at }
+        ensures taken { slice_get self.old.items at ≡ Some result }
+        ensures spare { self.old.spare ≤ self.new.spare }
+    {
+        self.items.remove(at)
     }
 }

@@ -1,12 +1,22 @@
-//! The calls of an occupied entry.
-ghost use Rattle.std.specs.Prelude.{◌≡◌, ◌≤◌, Some, slice_get};
+//! An occupied entry, and its calls.
+ghost use Rattle.std.specs.Prelude.{◌≡◌, ◌≤◌, ◌<◌, Some, length, slice_get};
 ghost use Rattle.std.specs.Borrow.{sem};
-ghost use Rattle.sorted_vector_map.specs.Entry.{Occupied, home, HasKey, stored, after_writing, after_removal, IsSamePlace, writes_through, writes_into};
 
-use super::OccupiedEntry;
+use crate::map::SortedVectorMap;
 use std::mem::replace;
 
+/// The place of a pair that is stored, from `SortedVectorMap::entry`, `first_entry` or
+/// `last_entry`.
+#[derive(Drop)]
+pub struct OccupiedEntry<'a, K: Ord, V> {
+    pub(crate) map: &'a mut SortedVectorMap<K, V>,
+    pub(crate) at: usize,
+    ghost within: { at < length map.now.pairs },
+}
+
 impl<'a, K: Ord, V> OccupiedEntry<'a, K, V> {
+    ghost use Rattle.sorted_vector_map.specs.Entry.{Occupied, home, HasKey, stored, after_writing, after_removal, IsSamePlace, writes_through, writes_into};
+
     /// The stored key. It takes O(1) time and no memory, as do the other calls that take nothing
     /// out.
     pub fn key(&self) -> &K

@@ -1,12 +1,23 @@
-//! The calls of a vacant entry.
+//! A vacant entry, and its calls.
 ghost use Rattle.std.specs.Prelude.{◌≡◌, ◌≤◌, IsOk, IfOk, IfErr};
 ghost use Rattle.std.specs.Borrow.{sem};
-ghost use Rattle.sorted_vector_map.specs.Entry.{Vacant, home, HasKey, writes_through_if_ok};
+ghost use Rattle.ordered_lists.specs.Search.{IsPairMissing};
 
-use super::VacantEntry;
+use crate::map::SortedVectorMap;
 use element_core::Refused;
 
+/// The place of a key that isn't present, and the key, from `SortedVectorMap::entry`.
+#[derive(Drop)]
+pub struct VacantEntry<'a, K: Ord, V> {
+    pub(crate) map: &'a mut SortedVectorMap<K, V>,
+    pub(crate) key: K,
+    pub(crate) at: usize,
+    ghost missing: { IsPairMissing K.cmp map.now.pairs key at },
+}
+
 impl<'a, K: Ord, V> VacantEntry<'a, K, V> {
+    ghost use Rattle.sorted_vector_map.specs.Entry.{Vacant, home, HasKey, writes_through_if_ok};
+
     /// The given key. It takes O(1) time and no memory.
     pub fn key(&self) -> &K
         ensures { HasKey (Vacant self.now) result.now }

@@ -4,7 +4,7 @@ ghost use Rattle.std.specs.Iterator.{at_most};
 ghost use Rattle.sorted_vector_map.specs.Hints.{IsExact};
 ghost use Rattle.sorted_vector_map.specs.Lending.{LendsFirstOf, LendsLastOf, deref_mut};
 
-use crate::iter_mut::IterMut;
+use crate::iters::IterMut;
 use std::iter::ExactSizeIterator;
 use std::marker::Model;
 

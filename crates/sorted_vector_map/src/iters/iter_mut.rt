@@ -12,10 +12,9 @@ ghost use Rattle.sorted_vector_map.specs.Lending.{LendsFirstOf, LendsLastOf, Com
 ghost use Rattle.sorted_vector_map.specs.Refilled.{lends_values};
 ghost use Rattle.sorted_vector_map.specs.Slots.{pair_of, cell_of};
 
-use crate::lent::Lent;
+use crate::iters::ValuesMut;
+use crate::lending::{Lent, Slot};
 use crate::map::SortedVectorMap;
-use crate::slot::Slot;
-use crate::values_mut::ValuesMut;
 use std::iter::ExactSizeIterator;
 use std::marker::Model;
 use std::ops::Bound;
