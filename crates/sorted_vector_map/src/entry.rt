@@ -25,7 +25,7 @@ pub enum Entry<'a, K: Ord, V> {
 }
 
 impl<'a, K: Ord, V> Entry<'a, K, V> {
-    /// The stored key, or the given one where there is none. It takes O(1) time and no memory.
+    /// Returns the stored key, or the given one where there is none. Takes O(1) time and no memory.
     pub fn key(&self) -> &K
         ensures { HasKey self.now result.now }
     {
@@ -35,10 +35,10 @@ impl<'a, K: Ord, V> Entry<'a, K, V> {
         }
     }
 
-    /// The stored value for writing, or `default`, which is put in at the given key.
+    /// Returns the stored value for writing, or `default`, which is put in at the given key.
     ///
-    /// Where memory is short the map stays, and the key and `default` come back. That never happens
-    /// where the entry is occupied or the map has spare. Putting in costs what
+    /// Where memory is short, the map stays, and the key and `default` come back. That never
+    /// happens where the entry is occupied or the map has spare. Putting in costs what
     /// `SortedVectorMap::insert` costs, without the search.
     pub fn or_insert(self, default: V) -> Result<&'a mut V, Refused<(K, V)>>
     where
@@ -53,8 +53,8 @@ impl<'a, K: Ord, V> Entry<'a, K, V> {
         self.or_insert_with(|| default)
     }
 
-    /// The stored value for writing, or the answer of `default`, which is put in at the given key.
-    /// `default` is called exactly where the entry is vacant.
+    /// Returns the stored value for writing, or what `default` returns, which is put in at the
+    /// given key. `default` is called exactly where the entry is vacant.
     ///
     /// It is refused where `or_insert` is, and costs the same.
     pub fn or_insert_with<F: FnOnce() -> V>(self, default: F) -> Result<&'a mut V, Refused<(K, V)>>
@@ -73,7 +73,8 @@ impl<'a, K: Ord, V> Entry<'a, K, V> {
         }
     }
 
-    /// The stored value for writing, or the type's default, which is put in at the given key.
+    /// Returns the stored value for writing, or the type's default, which is put in at the given
+    /// key.
     ///
     /// It is refused where `or_insert` is, and costs the same.
     pub fn or_default(self) -> Result<&'a mut V, Refused<(K, V)>>
@@ -93,8 +94,8 @@ impl<'a, K: Ord, V> Entry<'a, K, V> {
         }
     }
 
-    /// Calls `f` on the stored value, exactly where the entry is occupied, and answers the entry.
-    /// It takes no memory.
+    /// Calls `f` on the stored value, exactly where the entry is occupied, and returns the entry.
+    /// Takes O(1) time beside the call, and no memory.
     pub fn and_modify<F: FnOnce(&mut V)>(self, f: F) -> Entry<'a, K, V>
         requires { (v : MutBor V) → stored self ≡ Some v.now → F.pre f v }
         ensures place { IsSamePlace self.entry result }

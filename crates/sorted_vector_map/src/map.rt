@@ -41,7 +41,7 @@ impl<K: Ord, V> Model for SortedVectorMap<K, V> {
 }
 
 impl<K: Ord, V> SortedVectorMap<K, V> {
-    /// The empty map. It takes O(1) time and no memory.
+    /// Returns the empty map. Takes O(1) time and no memory.
     pub fn new(alloc: Global) -> Self
         ensures { result.pairs ≡ [] }
     {
@@ -50,8 +50,8 @@ impl<K: Ord, V> SortedVectorMap<K, V> {
         }
     }
 
-    /// The empty map with room for `capacity` pairs, in O(1) time. It takes memory, and is refused
-    /// where there is none, and where so many pairs are more than any memory can hold.
+    /// Returns the empty map with room for `capacity` pairs. Where memory is short, or so many
+    /// pairs are more than any memory can hold, it is refused. Takes O(1) time.
     pub fn with_capacity(alloc: Global, capacity: usize) -> Result<Self, NoMemory>
         ensures pairs { IfOk result (λ m. m.pairs ≡ []) }
         ensures spare { IfOk result (λ m. capacity ≤ m.spare) }
@@ -60,7 +60,8 @@ impl<K: Ord, V> SortedVectorMap<K, V> {
         Ok(SortedVectorMap { items })
     }
 
-    /// The vector of the pairs, in ascending order of their keys. It takes O(1) time and no memory.
+    /// Returns the vector of the pairs, in ascending order of their keys. Takes O(1) time and no
+    /// memory.
     pub fn into_inner(self) -> Vec<(K, V)>
         ensures pairs { result.items ≡ self.pairs }
         ensures ascending { IsStrictlySortedBy (by_key K.cmp) result.items }
@@ -68,7 +69,7 @@ impl<K: Ord, V> SortedVectorMap<K, V> {
         self.items
     }
 
-    /// Takes all pairs out, in O(n) time. Their room stays.
+    /// Takes all pairs out. Their room stays. Takes O(n) time and no memory.
     pub fn clear(&mut self)
     where
         K: Drop,
@@ -79,22 +80,22 @@ impl<K: Ord, V> SortedVectorMap<K, V> {
         self.items.clear();
     }
 
-    /// The number of pairs, in O(1) time and without memory.
+    /// Returns the number of pairs. Takes O(1) time and no memory.
     pub fn len(&self) -> usize
         ensures { result ≡ length self.now.pairs }
     {
         self.items.len()
     }
 
-    /// Whether there is no pair, in O(1) time and without memory.
+    /// Returns whether there is no pair. Takes O(1) time and no memory.
     pub fn is_empty(&self) -> bool
         ensures { result ≡ (length self.now.pairs == 0) }
     {
         self.items.is_empty()
     }
 
-    /// The pair at place `index`, counted from 0 in the order of the keys, or `None` from the
-    /// length on. It takes O(1) time and no memory.
+    /// Returns the pair at place `index`, counted from 0 in the order of the keys, or `None` from
+    /// the length on. Takes O(1) time and no memory.
     pub fn get_key_value_at_index(&self, index: usize) -> Option<(&K, &V)>
         ensures { option_map (λ p. (p.0.now, p.1.now)) result ≡ slice_get self.now.pairs index }
     {
@@ -105,8 +106,8 @@ impl<K: Ord, V> SortedVectorMap<K, V> {
         }
     }
 
-    /// The value at a key equal to `q`, or `None` where there is none. It takes O(log n)
-    /// comparisons and no memory, as do the other calls that look a key up.
+    /// Returns the value at a key equal to `q`, or `None` where there is none. Takes O(log n) time
+    /// and no memory, as do the other calls that look a key up.
     pub fn get(&self, q: &K) -> Option<&V>
         ensures { option_copied result ≡ option_map (λ p. p.1)
             (find (to_key K.cmp) self.now.pairs q.now) }
@@ -117,7 +118,7 @@ impl<K: Ord, V> SortedVectorMap<K, V> {
         }
     }
 
-    /// The stored key that is equal to `q` and its value, or `None` where there is none.
+    /// Returns the stored key that is equal to `q` and its value, or `None` where there is none.
     pub fn get_key_value(&self, q: &K) -> Option<(&K, &V)>
         ensures { option_map (λ p. (p.0.now, p.1.now)) result
             ≡ find (to_key K.cmp) self.now.pairs q.now }
@@ -128,15 +129,15 @@ impl<K: Ord, V> SortedVectorMap<K, V> {
         }
     }
 
-    /// Whether a key is equal to `q`.
+    /// Returns whether a key is equal to `q`.
     pub fn contains_key(&self, q: &K) -> bool
         ensures { result ≡ has (to_key K.cmp) self.now.pairs q.now }
     {
         self.search(q).is_ok()
     }
 
-    /// The value at a key equal to `q`, for writing, or `None` where there is none. Nothing else
-    /// changes.
+    /// Returns the value at a key equal to `q`, for writing, or `None` where there is none. Nothing
+    /// else changes.
     pub fn get_mut(&mut self, q: &K) -> Option<&mut V>
         ensures* writes_back { sem 𝓛 (lends_value_if K.row V.row K.Ord self.entry q.now result) }
         ensures value { option_copied_mut result
@@ -148,7 +149,7 @@ impl<K: Ord, V> SortedVectorMap<K, V> {
         }
     }
 
-    /// The value at a key equal to `q`, which is present.
+    /// Returns the value at a key equal to `q`, which is present.
     pub fn index(&self, q: &K) -> &V
         requires { IsTrue (has (to_key K.cmp) self.now.pairs q.now) }
         ensures { option_map (λ p. p.1) (find (to_key K.cmp) self.now.pairs q.now)
@@ -158,7 +159,8 @@ impl<K: Ord, V> SortedVectorMap<K, V> {
         self.pair_at(at).1
     }
 
-    /// The value at a key equal to `q`, which is present, for writing. Nothing else changes.
+    /// Returns the value at a key equal to `q`, which is present, for writing. Nothing else
+    /// changes.
     pub fn index_mut(&mut self, q: &K) -> &mut V
         requires { IsTrue (has (to_key K.cmp) self.old.pairs q.now) }
         ensures* writes_back { sem 𝓛 (lends_value K.row V.row K.Ord self.entry q.now result) }
@@ -169,7 +171,7 @@ impl<K: Ord, V> SortedVectorMap<K, V> {
         self.value_mut_at(at)
     }
 
-    /// The pair of the least key, or `None` where the map is empty. It takes O(1) time and no
+    /// Returns the pair of the least key, or `None` where the map is empty. Takes O(1) time and no
     /// memory.
     pub fn first_key_value(&self) -> Option<(&K, &V)>
         ensures { option_map (λ p. (p.0.now, p.1.now)) result ≡ slice_get self.now.pairs 0 }
@@ -177,8 +179,8 @@ impl<K: Ord, V> SortedVectorMap<K, V> {
         self.get_key_value_at_index(0)
     }
 
-    /// The pair of the greatest key, or `None` where the map is empty. It takes O(1) time and no
-    /// memory.
+    /// Returns the pair of the greatest key, or `None` where the map is empty. Takes O(1) time and
+    /// no memory.
     pub fn last_key_value(&self) -> Option<(&K, &V)>
         ensures { option_map (λ p. (p.0.now, p.1.now)) result
             ≡ slice_get self.now.pairs (length self.now.pairs - 1) }
@@ -187,11 +189,11 @@ impl<K: Ord, V> SortedVectorMap<K, V> {
     }
 
     /// Puts `v` in the place of the value at a key equal to `k`, whose stored key stays, and
-    /// answers the old value. Without such a key the pair is put in and the answer is `None`.
+    /// returns the old value. Without such a key it puts the pair in and returns `None`.
     ///
-    /// Where memory is short the map stays and the pair comes back. That never happens where an
-    /// equal key is present or the map has spare. It takes O(log n) comparisons and moves the pairs
-    /// of greater keys; a key above all others takes O(1) amortised time.
+    /// Where memory is short, the map stays and the pair comes back. That never happens where an
+    /// equal key is present or the map has spare. Takes O(log n) time, and time for the pairs of
+    /// greater keys, which move; a key above all others takes O(1) amortised time.
     pub fn insert(&mut self, k: K, v: V) -> Result<Option<V>, Refused<(K, V)>>
     where
         K: Drop,
@@ -218,8 +220,8 @@ impl<K: Ord, V> SortedVectorMap<K, V> {
         }
     }
 
-    /// Takes the pair of a key equal to `q` out, or answers `None` where there is none, in O(log n)
-    /// comparisons. The pairs behind it move. It takes no memory.
+    /// Takes the pair of a key equal to `q` out, or returns `None` where there is none. Takes O(log
+    /// n) time, and time for the pairs of greater keys, which move, and no memory.
     pub fn remove_entry(&mut self, q: &K) -> Option<(K, V)>
         ensures pairs { self.new.pairs ≡ take_out (to_key K.cmp) self.old.pairs q.now }
         ensures taken { result ≡ find (to_key K.cmp) self.old.pairs q.now }
@@ -231,8 +233,8 @@ impl<K: Ord, V> SortedVectorMap<K, V> {
         }
     }
 
-    /// Takes the pair of a key equal to `q` out and answers its value, or `None` where there is
-    /// none. It costs what `remove_entry` costs.
+    /// Takes the pair of a key equal to `q` out and returns its value, or `None` where there is
+    /// none. Costs what `remove_entry` costs.
     pub fn remove(&mut self, q: &K) -> Option<V>
     where
         K: Drop,
@@ -244,8 +246,8 @@ impl<K: Ord, V> SortedVectorMap<K, V> {
         Some(v)
     }
 
-    /// Takes the pair of the greatest key out, or answers `None` where the map is empty. It takes
-    /// O(1) time and no memory.
+    /// Takes the pair of the greatest key out, or returns `None` where the map is empty. Takes O(1)
+    /// time and no memory.
     pub fn pop_last(&mut self) -> Option<(K, V)>
         ensures pairs { self.old.pairs ≡ self.new.pairs ++ option_to_list result }
         ensures none { IfNone result (self.old.pairs ≡ []) }
@@ -295,7 +297,7 @@ impl<K: Ord, V> SortedVectorMap<K, V> {
         (&pair.0, &pair.1)
     }
 
-    // Puts v in the place of the value there, which is the answer.
+    // Puts v in the place of the value there, which is returned.
     fn write_at(&mut self, at: usize, v: V) -> V
         requires { at < length self.old.pairs }
         ensures pairs { self.new.pairs ≡ set_value self.old.pairs at v }
@@ -331,7 +333,7 @@ impl<K: Ord, V> SortedVectorMap<K, V> {
         Ok(())
     }
 
-    // The same, and answers the value for writing.
+    // The same, and returns the value for writing.
     pub(crate) fn insert_mut_at(&mut self, at: usize, k: K, v: V) -> Result<&mut V, Refused<(K, V)>>
         requires { IsPairMissing K.cmp self.old.pairs k at }
         ensures* writes_back { sem 𝓛 (lends_added K.row V.row K.Ord self.entry at k result) }

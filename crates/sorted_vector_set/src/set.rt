@@ -38,7 +38,7 @@ impl<T: Ord> Model for SortedVectorSet<T> {
 }
 
 impl<T: Ord> SortedVectorSet<T> {
-    /// The empty set. It takes O(1) time and no memory.
+    /// Returns the empty set. Takes O(1) time and no memory.
     pub fn new(alloc: Global) -> Self
         ensures { result.items ≡ [] }
     {
@@ -47,8 +47,8 @@ impl<T: Ord> SortedVectorSet<T> {
         }
     }
 
-    /// The empty set with room for `capacity` items, in O(1) time. It takes memory, and is refused
-    /// where there is none.
+    /// Returns the empty set with room for `capacity` items. Where memory is short, or so many
+    /// items are more than any memory can hold, it is refused. Takes O(1) time.
     pub fn with_capacity(alloc: Global, capacity: usize) -> Result<Self, NoMemory>
         ensures items { IfOk result (λ s. s.items ≡ []) }
         ensures spare { IfOk result (λ s. capacity ≤ s.spare) }
@@ -57,7 +57,7 @@ impl<T: Ord> SortedVectorSet<T> {
         Ok(SortedVectorSet { items })
     }
 
-    /// The vector of the items, in ascending order. It takes O(1) time and no memory.
+    /// Returns the vector of the items, in ascending order. Takes O(1) time and no memory.
     pub fn into_inner(self) -> Vec<T>
         ensures items { result.items ≡ self.items }
         ensures ascending { IsStrictlySortedBy T.cmp result.items }
@@ -65,7 +65,7 @@ impl<T: Ord> SortedVectorSet<T> {
         self.items
     }
 
-    /// Takes all items out, in O(n) time. Their room stays.
+    /// Takes all items out. Their room stays. Takes O(n) time and no memory.
     pub fn clear(&mut self)
     where
         T: Drop,
@@ -75,29 +75,29 @@ impl<T: Ord> SortedVectorSet<T> {
         self.items.clear();
     }
 
-    /// The number of items, in O(1) time and without memory.
+    /// Returns the number of items. Takes O(1) time and no memory.
     pub fn len(&self) -> usize
         ensures { result ≡ length self.now.items }
     {
         self.items.len()
     }
 
-    /// Whether there is no item, in O(1) time and without memory.
+    /// Returns whether there is no item. Takes O(1) time and no memory.
     pub fn is_empty(&self) -> bool
         ensures { result ≡ (length self.now.items == 0) }
     {
         self.items.is_empty()
     }
 
-    /// Whether an item is equal to `q`, in O(log n) comparisons and without memory.
+    /// Returns whether an item is equal to `q`. Takes O(log n) time and no memory.
     pub fn contains(&self, q: &T) -> bool
         ensures { result ≡ has T.cmp self.now.items q.now }
     {
         self.search(q).is_ok()
     }
 
-    /// The item that is equal to `q`, or `None` where there is none, in O(log n) comparisons and
-    /// without memory.
+    /// Returns the item that is equal to `q`, or `None` where there is none. Takes O(log n) time
+    /// and no memory.
     pub fn get(&self, q: &T) -> Option<&T>
         ensures { option_copied result ≡ find T.cmp self.now.items q.now }
     {
@@ -107,26 +107,26 @@ impl<T: Ord> SortedVectorSet<T> {
         }
     }
 
-    /// The least item, or `None` where the set is empty. It takes O(1) time and no memory.
+    /// Returns the least item, or `None` where the set is empty. Takes O(1) time and no memory.
     pub fn first(&self) -> Option<&T>
         ensures { option_copied result ≡ slice_get self.now.items 0 }
     {
         self.items.first()
     }
 
-    /// The greatest item, or `None` where the set is empty. It takes O(1) time and no memory.
+    /// Returns the greatest item, or `None` where the set is empty. Takes O(1) time and no memory.
     pub fn last(&self) -> Option<&T>
         ensures { option_copied result ≡ slice_get self.now.items (length self.now.items - 1) }
     {
         self.items.last()
     }
 
-    /// Puts `value` in the place of the item that is equal to it, and answers that item. Without
-    /// one, `value` is put in and the answer is `None`.
+    /// Puts `value` in the place of the item that is equal to it, and returns that item. Without
+    /// one it puts `value` in and returns `None`.
     ///
-    /// Where memory is short the set stays and `value` comes back. That never happens where an
-    /// equal item is present or the set has spare. It takes O(log n) comparisons and moves the
-    /// items that are greater; an item above all others takes O(1) amortised time.
+    /// Where memory is short, the set stays and `value` comes back. That never happens where an
+    /// equal item is present or the set has spare. Takes O(log n) time, and time for the greater
+    /// items, which move; an item above all others takes O(1) amortised time.
     pub fn replace(&mut self, value: T) -> Result<Option<T>, Refused<T>>
         ensures items { self.new.items ≡ (if is_ok result then set T.cmp self.old.items value else
             self.old.items) }
@@ -147,7 +147,7 @@ impl<T: Ord> SortedVectorSet<T> {
         }
     }
 
-    /// Does what `replace` does, and answers whether no item was equal to `value`.
+    /// Does what `replace` does, and returns whether no item was equal to `value`.
     ///
     /// It is refused where `replace` is, and costs the same.
     pub fn insert(&mut self, value: T) -> Result<bool, Refused<T>>
@@ -167,8 +167,8 @@ impl<T: Ord> SortedVectorSet<T> {
         Ok(old.is_none())
     }
 
-    /// Takes the item that is equal to `value` out, or answers `None` where there is none, in O(log
-    /// n) comparisons. The items behind it move. It takes no memory.
+    /// Takes the item that is equal to `value` out, or returns `None` where there is none. Takes
+    /// O(log n) time, and time for the greater items, which move, and no memory.
     pub fn take(&mut self, value: &T) -> Option<T>
         ensures items { self.new.items ≡ take_out T.cmp self.old.items value.now }
         ensures taken { result ≡ find T.cmp self.old.items value.now }
@@ -180,8 +180,8 @@ impl<T: Ord> SortedVectorSet<T> {
         }
     }
 
-    /// Takes the item that is equal to `value` out, and answers whether there was one. It costs
-    /// what `take` costs.
+    /// Takes the item that is equal to `value` out, and returns whether there was one. Costs what
+    /// `take` costs.
     pub fn remove(&mut self, value: &T) -> bool
     where
         T: Drop,
@@ -192,8 +192,8 @@ impl<T: Ord> SortedVectorSet<T> {
         self.take(value).is_some()
     }
 
-    /// Takes the greatest item out, or answers `None` where the set is empty. It takes O(1) time
-    /// and no memory.
+    /// Takes the greatest item out, or returns `None` where the set is empty. Takes O(1) time and
+    /// no memory.
     pub fn pop_last(&mut self) -> Option<T>
         ensures items { self.old.items ≡ self.new.items ++ option_to_list result }
         ensures none { IfNone result (self.old.items ≡ []) }
@@ -223,7 +223,7 @@ impl<T: Ord> SortedVectorSet<T> {
         self.search(q)
     }
 
-    // Puts value in the place of the item that is equal to it, which is the answer.
+    // Puts value in the place of the item that is equal to it, which is returned.
     fn replace_at(&mut self, at: usize, value: T) -> T
         requires { IsFound (λ x. x) T.cmp self.old.items value at }
         ensures items { self.new.items ≡ slice_set self.old.items at value }

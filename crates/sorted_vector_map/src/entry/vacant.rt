@@ -18,14 +18,14 @@ pub struct VacantEntry<'a, K: Ord, V> {
 impl<'a, K: Ord, V> VacantEntry<'a, K, V> {
     ghost use Rattle.sorted_vector_map.specs.Entry.{Vacant, home, HasKey, writes_through_if_ok};
 
-    /// The given key. It takes O(1) time and no memory.
+    /// Returns the given key. Takes O(1) time and no memory.
     pub fn key(&self) -> &K
         ensures { HasKey (Vacant self.now) result.now }
     {
         &self.key
     }
 
-    /// The given key, by value, in O(1) time and without memory. The map stays.
+    /// Returns the given key, by value. The map stays. Takes O(1) time and no memory.
     pub fn into_key(self) -> K
         ensures key { HasKey (Vacant self.entry) result }
         ensures map { self.exit.0.now ≡ (home (Vacant self.entry)).now }
@@ -33,10 +33,10 @@ impl<'a, K: Ord, V> VacantEntry<'a, K, V> {
         self.key
     }
 
-    /// Puts `value` in at the given key, and answers it for writing.
+    /// Puts `value` in at the given key, and returns it for writing.
     ///
-    /// Where memory is short the map stays, and the key and `value` come back; that never happens
-    /// where the map has spare. The pairs of greater keys move, in time for their number; no key is
+    /// Where memory is short, the map stays, and the key and `value` come back; that never happens
+    /// where the map has spare. Takes time for the pairs of greater keys, which move; no key is
     /// searched for.
     pub fn insert(self, value: V) -> Result<&'a mut V, Refused<(K, V)>>
         ensures* writes_back { sem 𝓛 (writes_through_if_ok K.row V.row (Vacant self.entry) result) }

@@ -10,8 +10,8 @@ use std::marker::Model;
 
 /// The values of a map that are still to come, for writing.
 ///
-/// It gives them from both ends, in O(1) time each and without memory, and its hint is their exact
-/// number.
+/// Gives them from both ends, with their exact number as its hint. Each call takes O(1) time and no
+/// memory.
 #[derive(Drop)]
 pub struct ValuesMut<'map, K, V> {
     pub(crate) pairs: IterMut<'map, K, V>,
