@@ -325,11 +325,12 @@ impl<K: Ord, V> SortedVectorMap<K, V> {
         ensures roomy { 1 ≤ self.old.spare → IsOk result }
         ensures spare { self.old.spare ≤ self.new.spare + (if is_ok result then 1 else 0) }
     {
-        if let Err(refused) = self.items.insert(at, (k, v)) {
+        if let Err(refused) = self.items.push((k, v)) {
             return Err(Refused {
                 given: refused.value,
             });
         }
+        self.items[at..].rotate_right(1);
         Ok(())
     }
 

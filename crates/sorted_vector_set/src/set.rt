@@ -242,11 +242,12 @@ impl<T: Ord> SortedVectorSet<T> {
         ensures roomy { 1 ≤ self.old.spare → IsOk result }
         ensures spare { self.old.spare ≤ self.new.spare + (if is_ok result then 1 else 0) }
     {
-        if let Err(refused) = self.items.insert(at, value) {
+        if let Err(refused) = self.items.push(value) {
             return Err(Refused {
                 given: refused.value,
             });
         }
+        self.items[at..].rotate_right(1);
         Ok(())
     }
 
