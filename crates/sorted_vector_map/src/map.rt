@@ -194,6 +194,7 @@ impl<K: Ord, V> SortedVectorMap<K, V> {
     /// Where memory is short, the map stays and the pair comes back. That never happens where an
     /// equal key is present or the map has spare. Takes O(log n) time, and time for the pairs of
     /// greater keys, which move; a key above all others takes O(1) amortised time.
+    #[inline]
     pub fn insert(&mut self, k: K, v: V) -> Result<Option<V>, Refused<(K, V)>>
     where
         K: Drop,

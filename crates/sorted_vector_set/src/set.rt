@@ -127,6 +127,7 @@ impl<T: Ord> SortedVectorSet<T> {
     /// Where memory is short, the set stays and `value` comes back. That never happens where an
     /// equal item is present or the set has spare. Takes O(log n) time, and time for the greater
     /// items, which move; an item above all others takes O(1) amortised time.
+    #[inline]
     pub fn replace(&mut self, value: T) -> Result<Option<T>, Refused<T>>
         ensures items { self.new.items ≡ (if is_ok result then set T.cmp self.old.items value else
             self.old.items) }
@@ -150,6 +151,7 @@ impl<T: Ord> SortedVectorSet<T> {
     /// Does what `replace` does, and returns whether no item was equal to `value`.
     ///
     /// It is refused where `replace` is, and costs the same.
+    #[inline]
     pub fn insert(&mut self, value: T) -> Result<bool, Refused<T>>
     where
         T: Drop,
