@@ -258,6 +258,10 @@ impl<K: Ord, V> SortedVectorMap<K, V> {
         ensures none { IfNone result (self.new.pairs ≡ self.old.pairs) }
     {
         let at = self.place_under(new);
+        let spare = self.items.capacity().saturating_sub(self.items.len());
+        if spare < new.len() && at <= self.items.len() / 2 {
+            return self.open_anew(new);
+        }
         if self.items.reserve(new.len()).is_err() {
             return None;
         }
@@ -265,6 +269,24 @@ impl<K: Ord, V> SortedVectorMap<K, V> {
             return None;
         };
         Some(tail)
+    }
+
+    // The same, and takes all pairs out: where there is too little room and at least half of the
+    // pairs would leave, none is moved twice then.
+    fn open_anew(&mut self, new: &[(K, V)]) -> Option<Vec<(K, V)>>
+        ensures tail { IfSome result (λ tail. tail.items ≡ self.old.pairs) }
+        ensures opened { IfSome result (λ _. self.new.pairs ≡ []) }
+        ensures ascending { IfSome result (λ _. IsStrictlySortedBy (by_key K.cmp) self.old.pairs) }
+        ensures room { IfSome result (λ tail. vec_len tail + length new.now ≤ self.new.spare) }
+        ensures none { IfNone result (self.new.pairs ≡ self.old.pairs) }
+    {
+        let alloc = *self.items.allocator();
+        let least = self.items.len().checked_add(new.len())?;
+        let room = self.items.capacity().saturating_mul(2).max(least);
+        let Ok(items) = Vec::with_capacity(alloc, room) else {
+            return None;
+        };
+        Some(replace(&mut self.items, items))
     }
 
     // Puts the pairs of tail and new behind those that are there.

@@ -250,6 +250,10 @@ impl<T: Ord> SortedVectorSet<T> {
         ensures none { IfNone result (self.new.items ≡ self.old.items) }
     {
         let at = self.place_under(new);
+        let spare = self.items.capacity().saturating_sub(self.items.len());
+        if spare < new.len() && at <= self.items.len() / 2 {
+            return self.open_anew(new);
+        }
         if self.items.reserve(new.len()).is_err() {
             return None;
         }
@@ -257,6 +261,24 @@ impl<T: Ord> SortedVectorSet<T> {
             return None;
         };
         Some(tail)
+    }
+
+    // The same, and takes all items out: where there is too little room and at least half of the
+    // items would leave, none is moved twice then.
+    fn open_anew(&mut self, new: &[T]) -> Option<Vec<T>>
+        ensures tail { IfSome result (λ tail. tail.items ≡ self.old.items) }
+        ensures opened { IfSome result (λ _. self.new.items ≡ []) }
+        ensures ascending { IfSome result (λ _. IsStrictlySortedBy T.cmp self.old.items) }
+        ensures room { IfSome result (λ tail. vec_len tail + length new.now ≤ self.new.spare) }
+        ensures none { IfNone result (self.new.items ≡ self.old.items) }
+    {
+        let alloc = *self.items.allocator();
+        let least = self.items.len().checked_add(new.len())?;
+        let room = self.items.capacity().saturating_mul(2).max(least);
+        let Ok(items) = Vec::with_capacity(alloc, room) else {
+            return None;
+        };
+        Some(replace(&mut self.items, items))
     }
 
     // Puts the items of tail and new behind those that are there.
