@@ -9,7 +9,7 @@ use Rattle.ordered_lists.proofs.PairLemmas.{key_set, value_set, set_twice, remov
 use Rattle.sorted_vector_map.specs.Content.{Content}
 use Rattle.sorted_vector_map.specs.Entry.{Occupied, stored, storing, IsSamePlace}
 use Rattle.sorted_vector_map.specs.declared.entry.Entry.{Entry}
-use Rattle.sorted_vector_map.specs.declared.entry.OccupiedEntry.{OccupiedEntry}
+use Rattle.sorted_vector_map.specs.declared.entry.occupied.OccupiedEntry.{OccupiedEntry}
 
 module _ {K V : Type 0} {g : ord.Ghosts K} {g' : eq.Ghosts K} {g'' : partial.Ghosts K} where
   -- two entries at one place of one map are the same

@@ -22,8 +22,8 @@ use denote.Struct.Struct.{Struct}
 use denote.Struct.Tuple.{Tuple}
 use Rattle.std.specs.Mem.{type_size}
 use Rattle.sorted_vector_map.specs.Slots.{key_offset, value_offset}
-use Rattle.sorted_vector_map.specs.contracts.lent.Lent as Lent-type
-use Rattle.sorted_vector_map.specs.contracts.slot.Slot as Slot-type
+use Rattle.sorted_vector_map.specs.contracts.lending.lent.Lent as Lent-type
+use Rattle.sorted_vector_map.specs.contracts.lending.slot.Slot as Slot-type
 
 pub record Two : Type 2 where
   pub key : RattleType

@@ -1,4 +1,5 @@
 pub mod PutLemmas
+pub mod TurnLemmas
 pub mod RetainLemmas
 pub mod CloneLemmas
 pub mod ComingLemmas

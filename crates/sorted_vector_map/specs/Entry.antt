@@ -14,8 +14,8 @@ use Rattle.sorted_vector_map.specs.Content.{Content}
 use Rattle.sorted_vector_map.specs.Lent.{OrdMembers, map_row}
 use Rattle.sorted_vector_map.specs.contracts.map.SortedVectorMap.{the_row}
 use Rattle.sorted_vector_map.specs.declared.entry.Entry.{Entry}
-use Rattle.sorted_vector_map.specs.declared.entry.OccupiedEntry.{OccupiedEntry}
-use Rattle.sorted_vector_map.specs.contracts.entry.OccupiedEntry as occupied
+use Rattle.sorted_vector_map.specs.declared.entry.occupied.OccupiedEntry.{OccupiedEntry}
+use Rattle.sorted_vector_map.specs.contracts.entry.occupied.OccupiedEntry as occupied
 use mir.Syntax.{named}
 
 module _ {K V : Type 0} {g : ord.Ghosts K} {g' : eq.Ghosts K} {g'' : partial.Ghosts K} where

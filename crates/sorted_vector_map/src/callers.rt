@@ -1,11 +1,12 @@
 //! What a caller does next: a key that was put in is read, a clone is equal, and keys stay.
 ghost use Rattle.std.specs.Prelude.{◌≡◌, true, length, map, IfOk};
+ghost use Rattle.sorted_vector_map.specs.Cloned.{EachCloneIsEqual};
 
 use crate::laws::{clones_are_equal, refilled_keeps_keys, refilled_keeps_length};
 use crate::{Entry, NoMemory, Refused, SortedVectorMap};
 use std::alloc::Global;
 
-/// The value that was put in, read at its key.
+// The value that was put in, read at its key.
 pub(crate) fn put_and_read<K: Ord + Copy + Drop>(
     ages: &mut SortedVectorMap<K, u32>,
     key: K,
@@ -17,7 +18,7 @@ pub(crate) fn put_and_read<K: Ord + Copy + Drop>(
     Ok(*ages.index(&key))
 }
 
-/// The value at a key, which `or_insert` puts in where it is missing.
+// The value at a key, which `or_insert` puts in where it is missing.
 pub(crate) fn read_or_insert<K: Ord + Copy + Drop>(
     ages: &mut SortedVectorMap<K, u32>,
     key: K,
@@ -27,7 +28,7 @@ pub(crate) fn read_or_insert<K: Ord + Copy + Drop>(
     Ok(*ages.index(&key))
 }
 
-/// The same by `or_insert_with`.
+// The same by `or_insert_with`.
 pub(crate) fn read_or_insert_with<K: Ord + Copy + Drop>(
     ages: &mut SortedVectorMap<K, u32>,
     key: K,
@@ -37,7 +38,7 @@ pub(crate) fn read_or_insert_with<K: Ord + Copy + Drop>(
     Ok(*ages.index(&key))
 }
 
-/// The same by `or_default`.
+// The same by `or_default`.
 pub(crate) fn read_or_default<K: Ord + Copy + Drop>(
     ages: &mut SortedVectorMap<K, u32>,
     key: K,
@@ -46,7 +47,7 @@ pub(crate) fn read_or_default<K: Ord + Copy + Drop>(
     Ok(*ages.index(&key))
 }
 
-/// The same by `VacantEntry::insert`.
+// The same by `VacantEntry::insert`.
 pub(crate) fn read_or_fill<K: Ord + Copy + Drop>(
     ages: &mut SortedVectorMap<K, u32>,
     key: K,
@@ -61,13 +62,13 @@ pub(crate) fn read_or_fill<K: Ord + Copy + Drop>(
     }
 }
 
-/// Whether a clone of the map is equal to it, which it is where clones of values are.
+// Whether a clone of the map is equal to it, which it is where clones of values are.
 pub(crate) fn clone_is_equal<K: Ord + Clone + Drop, V: PartialEq + Clone + Drop>(
     alloc: Global,
     stock: &SortedVectorMap<K, V>,
 ) -> Result<bool, NoMemory>
-    requires keys { (key copy : K) → K.is_clone key copy → K.eq copy key ≡ true }
-    requires values { (value copy : V) → V.is_clone value copy → V.eq copy value ≡ true }
+    requires keys { EachCloneIsEqual K.is_clone K.eq }
+    requires values { EachCloneIsEqual V.is_clone V.eq }
     ensures { IfOk result (λ equal. equal ≡ true) }
 {
     clones_are_equal::<K, V>();
@@ -75,7 +76,7 @@ pub(crate) fn clone_is_equal<K: Ord + Clone + Drop, V: PartialEq + Clone + Drop>
     Ok(copy == *stock)
 }
 
-/// Writes one price for all: the keys stay, and their number.
+// Writes one price for all: the keys stay, and their number.
 pub(crate) fn set_all(prices: &mut SortedVectorMap<u32, u32>, price: u32)
     ensures keys { map (λ p. p.0) prices.new.pairs ≡ map (λ p. p.0) prices.old.pairs }
     ensures len { length prices.new.pairs ≡ length prices.old.pairs }

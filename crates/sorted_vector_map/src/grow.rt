@@ -1,13 +1,13 @@
 //! Putting many pairs in at once.
-ghost use Rattle.std.specs.Prelude.{Some, true, ◌≡◌, ◌≤◌, ◌+◌, ◌++◌, List, [], ◌∷◌, length, map, take, IsTrue, IsOk, IfSome, IfNone, IfOk, IfErr, OnOk, OnErr, is_ok, if◌then◌else◌};
+ghost use Rattle.std.specs.Prelude.{Some, ◌≡◌, ◌≤◌, ◌+◌, ◌++◌, List, [], ◌∷◌, length, map, take, IsTrue, IsOk, IfSome, IfNone, IfOk, IfErr, OnOk, OnErr, is_ok, if◌then◌else◌};
 ghost use Rattle.std.specs.Borrow.{Bor};
-ghost use Rattle.std.specs.Iterator.{IsFinite, Drains};
+ghost use Rattle.std.specs.Iterator.{IsFiniteIterable};
 ghost use Rattle.std.specs.List.Sorted.{IsPermutation, IsSorted, IsStrictlySortedBy};
 ghost use Rattle.std.specs.Map.Iter.{deref_pair};
 ghost use Rattle.std.specs.Vec.{vec_len};
 ghost use Rattle.ordered_lists.specs.Lists.{by_key, to_key, has, sets};
-ghost use Rattle.sorted_vector_map.specs.Cloned.{AreClones};
-ghost use Rattle.sorted_vector_map.specs.Grown.{extended};
+ghost use Rattle.sorted_vector_map.specs.Cloned.{AreClones, EachCloneIsEqual};
+ghost use Rattle.sorted_vector_map.specs.Grown.{GivesAll, after_extending};
 
 use crate::map::SortedVectorMap;
 use crate::merge::{keep_last, merge, sort_by_key};
@@ -21,14 +21,14 @@ impl<K: Ord, V> SortedVectorMap<K, V> {
     /// stored key stays. Of more pairs the last of equal keys wins, and its key and value replace a
     /// stored pair.
     ///
-    /// Where memory is short the map stays and the same pairs come back, in any order. That never
-    /// happens without a pair, nor with one that `insert` would take. It takes O(m log m)
-    /// comparisons for m new pairs, and time for the pairs whose keys are above the least new one.
+    /// Where memory is short, the map stays and the same pairs come back, in any order. That never
+    /// happens without a pair, nor with one that `insert` would take. Takes O(m log m) time for m
+    /// new pairs, and time for the pairs whose keys are above the least new one.
     pub fn extend_with_vec(&mut self, new: Vec<(K, V)>) -> Result<(), Refused<Vec<(K, V)>>>
     where
         K: Drop,
         V: Drop,
-        ensures pairs { self.new.pairs ≡ (if is_ok result then extended K.cmp self.old.pairs
+        ensures pairs { self.new.pairs ≡ (if is_ok result then after_extending K.cmp self.old.pairs
             new.items else self.old.pairs) }
         ensures given { IfErr result (λ refused. IsPermutation new.items refused.given.items) }
         ensures none { new.items ≡ [] → IsOk result }
@@ -49,16 +49,16 @@ impl<K: Ord, V> SortedVectorMap<K, V> {
     /// Puts the pairs that `iter` gives in, as `extend_with_vec` does, and costs what it costs. The
     /// pairs are collected first, in memory of their own.
     ///
-    /// Where memory is short the map stays, and the pairs are gone.
+    /// Where memory is short, the map stays, and the pairs are gone.
     pub fn extend<I: IntoIterator<Item = (K, V)>>(&mut self, iter: I) -> Result<(), NoMemory>
     where
         K: Drop,
         V: Drop,
-        requires { (it : I.IntoIter) → I.into_iter_gives iter it
-            → I.IntoIter.can_next it × IsFinite (I.IntoIter.remaining it) }
-        ensures ok { OnOk result ((it : I.IntoIter) × (new : List (K × V))
-            × I.into_iter_gives iter it × Drains I.IntoIter.next_gives it new
-            × (self.new.pairs ≡ extended K.cmp self.old.pairs new)) }
+        requires { IsFiniteIterable I.into_iter_gives I.IntoIter.can_next
+            I.IntoIter.remaining iter }
+        ensures ok { OnOk result ((new : List (K × V))
+            × GivesAll I.into_iter_gives I.IntoIter.next_gives iter new
+            × (self.new.pairs ≡ after_extending K.cmp self.old.pairs new)) }
         ensures err { OnErr result (self.new.pairs ≡ self.old.pairs) }
     {
         let alloc = *self.items.allocator();
@@ -74,7 +74,7 @@ impl<K: Ord, V> SortedVectorMap<K, V> {
     /// Puts copies of the pairs that `iter` gives in, as `extend_with_vec` does, and costs what
     /// `extend` costs.
     ///
-    /// Where memory is short the map stays.
+    /// Where memory is short, the map stays.
     pub fn extend_copied<'a, I: IntoIterator<Item = (&'a K, &'a V)>>(
         &mut self,
         iter: I,
@@ -82,11 +82,11 @@ impl<K: Ord, V> SortedVectorMap<K, V> {
     where
         K: Copy + 'a,
         V: Copy + 'a,
-        requires { (it : I.IntoIter) → I.into_iter_gives iter it
-            → I.IntoIter.can_next it × IsFinite (I.IntoIter.remaining it) }
-        ensures ok { OnOk result ((it : I.IntoIter) × (shown : List (Bor K × Bor V))
-            × I.into_iter_gives iter it × Drains I.IntoIter.next_gives it shown
-            × (self.new.pairs ≡ extended K.cmp self.old.pairs (map deref_pair shown))) }
+        requires { IsFiniteIterable I.into_iter_gives I.IntoIter.can_next
+            I.IntoIter.remaining iter }
+        ensures ok { OnOk result ((shown : List (Bor K × Bor V))
+            × GivesAll I.into_iter_gives I.IntoIter.next_gives iter shown
+            × (self.new.pairs ≡ after_extending K.cmp self.old.pairs (map deref_pair shown))) }
         ensures err { OnErr result (self.new.pairs ≡ self.old.pairs) }
     {
         let alloc = *self.items.allocator();
@@ -104,9 +104,9 @@ impl<K: Ord, V> SortedVectorMap<K, V> {
 
     /// Puts all pairs of `other` in, which is empty then. Of equal keys the pair of `other` stays.
     ///
-    /// Where memory is short both maps stay. It takes O(m) time for the m pairs of both maps whose
-    /// keys aren't below the least key of `other`, with one search for that key and amortised
-    /// growth. Where this map is empty it takes O(1) time and no memory, so it is never refused.
+    /// Where memory is short, both maps stay. Takes O(log n) time for one search, and O(m)
+    /// amortised time for the m pairs of both maps whose keys aren't below the least key of
+    /// `other`. Where this map is empty it takes O(1) time and no memory, so it is never refused.
     pub fn append(&mut self, other: &mut Self) -> Result<(), NoMemory>
     where
         K: Drop,
@@ -129,8 +129,8 @@ impl<K: Ord, V> SortedVectorMap<K, V> {
         Ok(())
     }
 
-    /// The map of the pairs that `iter` gives: `extend` of the empty map, in O(m log m) comparisons
-    /// for m pairs. Where memory is short it is refused, and the pairs are gone.
+    /// Returns the map of the pairs that `iter` gives: `extend` of the empty map. Where memory is
+    /// short, it is refused, and the pairs are gone. Takes O(m log m) time for m pairs.
     pub fn try_from_iter<I: IntoIterator<Item = (K, V)>>(
         alloc: Global,
         iter: I,
@@ -138,19 +138,19 @@ impl<K: Ord, V> SortedVectorMap<K, V> {
     where
         K: Drop,
         V: Drop,
-        requires { (it : I.IntoIter) → I.into_iter_gives iter it
-            → I.IntoIter.can_next it × IsFinite (I.IntoIter.remaining it) }
-        ensures { IfOk result (λ m. (it : I.IntoIter) × (new : List (K × V))
-            × I.into_iter_gives iter it × Drains I.IntoIter.next_gives it new
-            × (m.pairs ≡ extended K.cmp [] new)) }
+        requires { IsFiniteIterable I.into_iter_gives I.IntoIter.can_next
+            I.IntoIter.remaining iter }
+        ensures { IfOk result (λ m. (new : List (K × V))
+            × GivesAll I.into_iter_gives I.IntoIter.next_gives iter new
+            × (m.pairs ≡ after_extending K.cmp [] new)) }
     {
         let mut map = SortedVectorMap::new(alloc);
         map.extend(iter)?;
         Ok(map)
     }
 
-    /// The map of the pairs of `bmap`, in O(n) time and without comparisons. It takes memory for
-    /// all pairs at once. Where there is none it is refused, and the pairs are gone.
+    /// Returns the map of the pairs of `bmap`. Where memory is short, it is refused, and the pairs
+    /// are gone. Takes O(n) time, without comparisons, and memory for all pairs at once.
     pub fn try_from_btree_map(alloc: Global, bmap: BTreeMap<K, V>) -> Result<Self, NoMemory>
     where
         K: Drop,
@@ -161,13 +161,13 @@ impl<K: Ord, V> SortedVectorMap<K, V> {
         Ok(SortedVectorMap { items })
     }
 
-    /// A map of clones of the pairs, in their order and with room for them, in O(n) time. The clone
-    /// of a key is equal to it. It takes memory, and is refused where there is none.
+    /// Returns a map of clones of the pairs, in their order and with room for them. The clone of a
+    /// key is equal to it. Where memory is short, it is refused. Takes O(n) time.
     pub fn try_clone(&self, alloc: Global) -> Result<Self, NoMemory>
     where
         K: Clone,
         V: Clone,
-        requires { (key copy : K) → K.is_clone key copy → K.eq copy key ≡ true }
+        requires { EachCloneIsEqual K.is_clone K.eq }
         ensures { IfOk result (λ m. AreClones K.is_clone V.is_clone self.now.pairs m.pairs) }
     {
         let mut items = Vec::with_capacity(alloc, self.items.len())?;
@@ -181,7 +181,7 @@ impl<K: Ord, V> SortedVectorMap<K, V> {
         K: Drop,
         V: Drop,
         requires { vec_len new ≤ 1 }
-        ensures pairs { self.new.pairs ≡ (if is_ok result then extended K.cmp self.old.pairs
+        ensures pairs { self.new.pairs ≡ (if is_ok result then after_extending K.cmp self.old.pairs
             new.items else self.old.pairs) }
         ensures given { IfErr result (λ refused. refused.given.items ≡ new.items) }
         ensures none { new.items ≡ [] → IsOk result }
@@ -258,6 +258,10 @@ impl<K: Ord, V> SortedVectorMap<K, V> {
         ensures none { IfNone result (self.new.pairs ≡ self.old.pairs) }
     {
         let at = self.place_under(new);
+        let spare = self.items.capacity().saturating_sub(self.items.len());
+        if spare < new.len() && at <= self.items.len() / 2 {
+            return self.open_anew(new);
+        }
         if self.items.reserve(new.len()).is_err() {
             return None;
         }
@@ -265,6 +269,24 @@ impl<K: Ord, V> SortedVectorMap<K, V> {
             return None;
         };
         Some(tail)
+    }
+
+    // The same, and takes all pairs out: where there is too little room and at least half of the
+    // pairs would leave, none is moved twice then.
+    fn open_anew(&mut self, new: &[(K, V)]) -> Option<Vec<(K, V)>>
+        ensures tail { IfSome result (λ tail. tail.items ≡ self.old.pairs) }
+        ensures opened { IfSome result (λ _. self.new.pairs ≡ []) }
+        ensures ascending { IfSome result (λ _. IsStrictlySortedBy (by_key K.cmp) self.old.pairs) }
+        ensures room { IfSome result (λ tail. vec_len tail + length new.now ≤ self.new.spare) }
+        ensures none { IfNone result (self.new.pairs ≡ self.old.pairs) }
+    {
+        let alloc = *self.items.allocator();
+        let least = self.items.len().checked_add(new.len())?;
+        let room = self.items.capacity().saturating_mul(2).max(least);
+        let Ok(items) = Vec::with_capacity(alloc, room) else {
+            return None;
+        };
+        Some(replace(&mut self.items, items))
     }
 
     // Puts the pairs of tail and new behind those that are there.

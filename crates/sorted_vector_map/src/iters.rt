@@ -8,14 +8,20 @@ ghost use Rattle.sorted_vector_map.specs.Coming.{ComesByReference, ComesByValue,
 use crate::map::SortedVectorMap;
 
 mod borrowed;
+mod iter_mut;
+#[cfg(test)]
+pub(crate) mod iter_mut_tests;
 mod owned;
+mod values_mut;
 
 pub use borrowed::{Iter, Keys, Values};
+pub use iter_mut::IterMut;
 pub use owned::{IntoKeys, IntoValues};
+pub use values_mut::ValuesMut;
 
 impl<K: Ord, V> SortedVectorMap<K, V> {
-    /// The pairs in the order of their keys. Made in O(1) time and without memory, as are the other
-    /// iterators.
+    /// Returns the pairs in the order of their keys. Takes O(1) time and no memory, as do the other
+    /// calls that begin an iterator.
     pub fn iter(&self) -> Iter<'_, K, V>
         ensures pairs { ComesByReference deref_pair self.now.pairs result }
         ensures ascending { IsStrictlySortedBy (by_key K.cmp) self.now.pairs }
@@ -23,7 +29,7 @@ impl<K: Ord, V> SortedVectorMap<K, V> {
         Iter::new(&self.items)
     }
 
-    /// The keys in ascending order.
+    /// Returns the keys in ascending order.
     pub fn keys(&self) -> Keys<'_, K, V>
         ensures keys { ComesByReference deref (map (λ p. p.0) self.now.pairs) result }
         ensures ascending { IsStrictlySortedBy K.cmp (map (λ p. p.0) self.now.pairs) }
@@ -31,14 +37,14 @@ impl<K: Ord, V> SortedVectorMap<K, V> {
         Keys::of(self.iter())
     }
 
-    /// The values in the order of their keys.
+    /// Returns the values in the order of their keys.
     pub fn values(&self) -> Values<'_, K, V>
         ensures values { ComesByReference deref (map (λ p. p.1) self.now.pairs) result }
     {
         Values::of(self.iter())
     }
 
-    /// The keys in ascending order, by value.
+    /// Returns the keys in ascending order, by value.
     pub fn into_keys(self) -> IntoKeys<K, V>
         ensures keys { ComesByValue (map (λ p. p.0) self.pairs) result }
         ensures ascending { IsStrictlySortedBy K.cmp (map (λ p. p.0) self.pairs) }
@@ -46,7 +52,7 @@ impl<K: Ord, V> SortedVectorMap<K, V> {
         IntoKeys::of(self.items)
     }
 
-    /// The values in the order of their keys, by value.
+    /// Returns the values in the order of their keys, by value.
     pub fn into_values(self) -> IntoValues<K, V>
         ensures values { ComesByValue (map (λ p. p.1) self.pairs) result }
     {

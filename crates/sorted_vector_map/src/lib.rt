@@ -10,27 +10,17 @@ mod callers;
 mod compared;
 mod entry;
 mod grow;
-mod iter_mut;
-#[cfg(test)]
-mod iter_mut_tests;
 mod iters;
 pub mod laws;
-mod lend;
-mod lent;
-mod look;
+mod lending;
 mod map;
 mod merge;
-mod places;
 mod ranges;
 mod retain;
-mod slot;
 #[cfg(test)]
 mod tests;
-mod values_mut;
 
 pub use element_core::{NoMemory, Refused};
 pub use entry::{Entry, OccupiedEntry, VacantEntry};
-pub use iter_mut::IterMut;
-pub use iters::{IntoKeys, IntoValues, Iter, Keys, Values};
+pub use iters::{IntoKeys, IntoValues, Iter, IterMut, Keys, Values, ValuesMut};
 pub use map::SortedVectorMap;
-pub use values_mut::ValuesMut;

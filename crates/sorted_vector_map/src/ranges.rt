@@ -17,8 +17,8 @@ use std::alloc::Global;
 use std::ops::Bound;
 
 impl<K: Ord, V> SortedVectorMap<K, V> {
-    /// The pairs whose keys lie within `low` and `high`, which are in order: the low key is at most
-    /// the high one, and they aren't equal and both excluded. It takes O(log n) comparisons and no
+    /// Returns the pairs whose keys lie within `low` and `high`, which are in order: the low key is
+    /// at most the high one, and they aren't equal and both excluded. Takes O(log n) time and no
     /// memory.
     pub fn range(&self, low: Bound<&K>, high: Bound<&K>) -> Iter<'_, K, V>
         requires { AreInOrder K.cmp (bound_map (λ k. k.now) low) (bound_map (λ k. k.now) high) }
@@ -32,10 +32,10 @@ impl<K: Ord, V> SortedVectorMap<K, V> {
         Iter::new(&self.items[start..end])
     }
 
-    /// Keeps the pairs of keys below `q`, and answers a map of the others.
+    /// Keeps the pairs of keys below `q`, and returns a map of the others.
     ///
-    /// Where memory is short the map stays. It takes O(log n) comparisons, and time for the pairs
-    /// that leave.
+    /// Where memory is short, the map stays. Takes O(log n) time, and time for the pairs that
+    /// leave.
     pub fn split_off(&mut self, alloc: Global, q: &K) -> Result<Self, NoMemory>
         ensures below { OnOk result (self.new.pairs
             ≡ filter (λ p. is_lt (K.cmp p.0 q.now)) self.old.pairs) }

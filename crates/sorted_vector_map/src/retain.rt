@@ -6,7 +6,7 @@ use crate::map::SortedVectorMap;
 
 impl<K: Ord, V> SortedVectorMap<K, V> {
     /// Calls `f` once on each pair in the order of the keys, and keeps the pairs at which it
-    /// answers true, with the values that the calls left. It takes O(n) time and no memory.
+    /// returns true, with the values that the calls left. Takes O(n) time and no memory.
     pub fn retain<F: FnMut(&K, &mut V) -> bool>(&mut self, mut f: F)
     where
         K: Drop,
@@ -20,7 +20,7 @@ impl<K: Ord, V> SortedVectorMap<K, V> {
     }
 }
 
-// Moves the pairs at which f answers true to the front, in their order, and answers how many they
+// Moves the pairs at which f returns true to the front, in their order, and returns how many they
 // are.
 fn bring_forward<K, V, F: FnMut(&K, &mut V) -> bool>(f: &mut F, pairs: &mut [(K, V)]) -> usize
     requires { CallableOnEachPair (CalledAtPair F.FnMut) (TakesPair F.FnMut) f.old pairs.old }
@@ -37,7 +37,7 @@ fn bring_forward<K, V, F: FnMut(&K, &mut V) -> bool>(f: &mut F, pairs: &mut [(K,
     kept
 }
 
-// What f answers at the pair, whose value it may write.
+// What f returns at the pair, whose value it may write.
 fn passes<K, V, F: FnMut(&K, &mut V) -> bool>(f: &mut F, pair: &mut (K, V)) -> bool
     requires { TakesPair F.FnMut f.old pair.old.0 pair.old.1 }
     ensures called { CalledAtPair F.FnMut f.old pair.old.0 pair.old.1 result pair.new.1 f.new }

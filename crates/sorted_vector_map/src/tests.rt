@@ -8,7 +8,7 @@ use crate::callers::{
     clone_is_equal, put_and_read, read_or_default, read_or_fill, read_or_insert,
     read_or_insert_with,
 };
-use crate::iter_mut_tests::even_keys;
+use crate::iters::iter_mut_tests::even_keys;
 use crate::{NoMemory, SortedVectorMap};
 use std::alloc::Global;
 use std::collections::BTreeMap;

@@ -1,3 +1,4 @@
 pub mod KeepLemmas
 pub mod LazyLemmas
 pub mod RelationLemmas
+pub mod TurnLemmas

@@ -10,14 +10,14 @@ use sorted_iter::{AssumeSortedByItem, AssumeSortedByItemExt, SortedIterator};
 use std::alloc::{AllocError, Global};
 use std::slice::Iter;
 
-/// The items of a set as a stream in order.
+// The items of a set as a stream in order.
 pub(crate) fn stream_of<'a, T: Ord>(set: &'a SortedVectorSet<T>) -> AssumeSortedByItem<Iter<'a, T>>
     ensures { InOrder (λ x y. T.cmp x.now y.now) (iter_steps {A = T}) (assumed_source result) }
 {
     set.iter().assume_sorted_by_item()
 }
 
-/// The items of a set that lie in a range of numbers.
+// The items of a set that lie in a range of numbers.
 pub(crate) fn those_between(
     alloc: Global,
     set: &SortedVectorSet<u32>,

@@ -1,26 +1,26 @@
 //! New sets of clones of the items of two sets.
-ghost use Rattle.std.specs.Prelude.{true, ◌≡◌, List, map, IfOk};
+ghost use Rattle.std.specs.Prelude.{List, map, IfOk};
 ghost use Rattle.std.specs.Borrow.{Bor};
 ghost use Rattle.std.specs.Iterator.{IsFinite, Drains};
 ghost use Rattle.std.specs.List.{AllZip};
 ghost use Rattle.std.specs.List.Sorted.{IsStrictlySortedBy};
 ghost use Rattle.std.specs.Map.Iter.{deref};
 ghost use Rattle.ordered_lists.specs.Lists.{union, intersection, difference, symmetric_difference};
+ghost use Rattle.sorted_vector_set.specs.Cloned.{EachCloneIsEqual};
 
 use crate::set::SortedVectorSet;
 use element_core::NoMemory;
 use std::alloc::Global;
 
 impl<T: Ord> SortedVectorSet<T> {
-    /// A set of clones of the items to which an item of `rhs` is equal. The clone of an item is
-    /// equal to it.
+    /// Returns a set of clones of the items to which an item of `rhs` is equal. The clone of an
+    /// item is equal to it.
     ///
-    /// It takes O(n + m) comparisons and memory, and is refused where there is none. So do the
-    /// other three.
+    /// Where memory is short, it is refused. Takes O(n + m) time, as do the other three.
     pub fn bitand(&self, alloc: Global, rhs: &Self) -> Result<Self, NoMemory>
     where
         T: Clone,
-        requires { (item copy : T) → T.is_clone item copy → T.eq copy item ≡ true }
+        requires { EachCloneIsEqual T.is_clone T.eq }
         ensures { IfOk result (λ s. AllZip T.is_clone
             (intersection T.cmp self.now.items rhs.now.items) s.items) }
     {
@@ -28,11 +28,11 @@ impl<T: Ord> SortedVectorSet<T> {
         Ok(set)
     }
 
-    /// A set of clones of the items of either set; of two equal items that of `rhs`.
+    /// Returns a set of clones of the items of either set; of two equal items that of `rhs`.
     pub fn bitor(&self, alloc: Global, rhs: &Self) -> Result<Self, NoMemory>
     where
         T: Clone,
-        requires { (item copy : T) → T.is_clone item copy → T.eq copy item ≡ true }
+        requires { EachCloneIsEqual T.is_clone T.eq }
         ensures { IfOk result (λ s. AllZip T.is_clone (union T.cmp rhs.now.items self.now.items)
             s.items) }
     {
@@ -40,11 +40,11 @@ impl<T: Ord> SortedVectorSet<T> {
         Ok(set)
     }
 
-    /// A set of clones of the items to which no item of `rhs` is equal.
+    /// Returns a set of clones of the items to which no item of `rhs` is equal.
     pub fn sub(&self, alloc: Global, rhs: &Self) -> Result<Self, NoMemory>
     where
         T: Clone,
-        requires { (item copy : T) → T.is_clone item copy → T.eq copy item ≡ true }
+        requires { EachCloneIsEqual T.is_clone T.eq }
         ensures { IfOk result (λ s. AllZip T.is_clone
             (difference T.cmp self.now.items rhs.now.items) s.items) }
     {
@@ -52,11 +52,11 @@ impl<T: Ord> SortedVectorSet<T> {
         Ok(set)
     }
 
-    /// A set of clones of the items of either set to which no item of the other is equal.
+    /// Returns a set of clones of the items of either set to which no item of the other is equal.
     pub fn bitxor(&self, alloc: Global, rhs: &Self) -> Result<Self, NoMemory>
     where
         T: Clone,
-        requires { (item copy : T) → T.is_clone item copy → T.eq copy item ≡ true }
+        requires { EachCloneIsEqual T.is_clone T.eq }
         ensures { IfOk result (λ s. AllZip T.is_clone
             (symmetric_difference T.cmp self.now.items rhs.now.items) s.items) }
     {
@@ -72,7 +72,7 @@ fn clones_of<'a, T: Ord + Clone + 'a, I: Iterator<Item = &'a T>>(
 ) -> Result<SortedVectorSet<T>, NoMemory>
     requires can { I.can_next items }
     requires finite { IsFinite (I.remaining items) }
-    requires clones { (item copy : T) → T.is_clone item copy → T.eq copy item ≡ true }
+    requires clones { EachCloneIsEqual T.is_clone T.eq }
     requires ascending { (shown : List (Bor T)) → Drains I.next_gives items shown
         → IsStrictlySortedBy T.cmp (map deref shown) }
     ensures { IfOk result (λ s. (shown : List (Bor T)) × Drains I.next_gives items shown

@@ -2,12 +2,14 @@
 ghost use Rattle.std.specs.Prelude.{true, ◌≡◌, ◌≤◌, ◌+◌, ◌++◌, List, [], ◌∷◌, length, map, take, IsTrue, IsOk, IfSome, IfNone, IfOk, IfErr, OnOk, OnErr, is_ok, if◌then◌else◌};
 ghost use Rattle.std.specs.Borrow.{Bor};
 ghost use Rattle.std.specs.Cmp.Lexicographic.{pointwise};
-ghost use Rattle.std.specs.Iterator.{IsFinite, Drains};
+ghost use Rattle.std.specs.Iterator.{IsFiniteIterable};
 ghost use Rattle.std.specs.List.{AllZip};
 ghost use Rattle.std.specs.List.Sorted.{IsPermutation, IsSorted, IsStrictlySortedBy};
 ghost use Rattle.std.specs.Map.Iter.{deref};
 ghost use Rattle.std.specs.Vec.{vec_len};
 ghost use Rattle.ordered_lists.specs.Lists.{has, sets};
+ghost use Rattle.sorted_vector_set.specs.Cloned.{EachCloneIsEqual};
+ghost use Rattle.sorted_vector_set.specs.Grown.{GivesAll};
 
 use crate::merge::{keep_last, merge};
 use crate::set::SortedVectorSet;
@@ -19,9 +21,9 @@ use std::mem::{replace, swap};
 impl<T: Ord> SortedVectorSet<T> {
     /// Puts the items of `new` in. The last of equal items wins, and replaces a stored one.
     ///
-    /// Where memory is short the set stays and the same items come back, in any order. That never
-    /// happens without an item, nor with one that `insert` would take. It takes O(m log m)
-    /// comparisons for m new items, and time for the items above the least new one.
+    /// Where memory is short, the set stays and the same items come back, in any order. That never
+    /// happens without an item, nor with one that `insert` would take. Takes O(m log m) time for m
+    /// new items, and time for the items above the least new one.
     pub fn extend_with_vec(&mut self, new: Vec<T>) -> Result<(), Refused<Vec<T>>>
     where
         T: Drop,
@@ -46,14 +48,14 @@ impl<T: Ord> SortedVectorSet<T> {
     /// Puts the items that `iter` gives in, as `extend_with_vec` does, and costs what it costs. The
     /// items are collected first, in memory of their own.
     ///
-    /// Where memory is short the set stays, and the items are gone.
+    /// Where memory is short, the set stays, and the items are gone.
     pub fn extend<I: IntoIterator<Item = T>>(&mut self, iter: I) -> Result<(), NoMemory>
     where
         T: Drop,
-        requires { (it : I.IntoIter) → I.into_iter_gives iter it
-            → I.IntoIter.can_next it × IsFinite (I.IntoIter.remaining it) }
-        ensures ok { OnOk result ((it : I.IntoIter) × (new : List T) × I.into_iter_gives iter it
-            × Drains I.IntoIter.next_gives it new
+        requires { IsFiniteIterable I.into_iter_gives I.IntoIter.can_next
+            I.IntoIter.remaining iter }
+        ensures ok { OnOk result ((new : List T)
+            × GivesAll I.into_iter_gives I.IntoIter.next_gives iter new
             × (self.new.items ≡ sets T.cmp self.old.items new)) }
         ensures err { OnErr result (self.new.items ≡ self.old.items) }
     {
@@ -70,17 +72,17 @@ impl<T: Ord> SortedVectorSet<T> {
     /// Puts copies of the items that `iter` gives in, as `extend_with_vec` does, and costs what
     /// `extend` costs.
     ///
-    /// Where memory is short the set stays.
+    /// Where memory is short, the set stays.
     pub fn extend_copied<'a, I: IntoIterator<Item = &'a T>>(
         &mut self,
         iter: I,
     ) -> Result<(), NoMemory>
     where
         T: Copy + 'a,
-        requires { (it : I.IntoIter) → I.into_iter_gives iter it
-            → I.IntoIter.can_next it × IsFinite (I.IntoIter.remaining it) }
-        ensures ok { OnOk result ((it : I.IntoIter) × (shown : List (Bor T))
-            × I.into_iter_gives iter it × Drains I.IntoIter.next_gives it shown
+        requires { IsFiniteIterable I.into_iter_gives I.IntoIter.can_next
+            I.IntoIter.remaining iter }
+        ensures ok { OnOk result ((shown : List (Bor T))
+            × GivesAll I.into_iter_gives I.IntoIter.next_gives iter shown
             × (self.new.items ≡ sets T.cmp self.old.items (map deref shown))) }
         ensures err { OnErr result (self.new.items ≡ self.old.items) }
     {
@@ -99,8 +101,8 @@ impl<T: Ord> SortedVectorSet<T> {
 
     /// Puts all items of `other` in, which is empty then. Of two equal items that of `other` stays.
     ///
-    /// Where memory is short both sets stay. It takes O(m) time for the m items of both sets that
-    /// aren't below the least item of `other`, with one search for that item and amortised growth.
+    /// Where memory is short, both sets stay. Takes O(log n) time for one search, and O(m)
+    /// amortised time for the m items of both sets that aren't below the least item of `other`.
     /// Where this set is empty it takes O(1) time and no memory, so it is never refused.
     pub fn append(&mut self, other: &mut Self) -> Result<(), NoMemory>
     where
@@ -123,26 +125,27 @@ impl<T: Ord> SortedVectorSet<T> {
         Ok(())
     }
 
-    /// The set of the items that `iter` gives: `extend` of the empty set, in O(m log m) comparisons
-    /// for m items. Where memory is short it is refused, and the items are gone.
+    /// Returns the set of the items that `iter` gives: `extend` of the empty set. Where memory is
+    /// short, it is refused, and the items are gone. Takes O(m log m) time for m items.
     pub fn try_from_iter<I: IntoIterator<Item = T>>(
         alloc: Global,
         iter: I,
     ) -> Result<Self, NoMemory>
     where
         T: Drop,
-        requires { (it : I.IntoIter) → I.into_iter_gives iter it
-            → I.IntoIter.can_next it × IsFinite (I.IntoIter.remaining it) }
-        ensures { IfOk result (λ s. (it : I.IntoIter) × (new : List T) × I.into_iter_gives iter it
-            × Drains I.IntoIter.next_gives it new × (s.items ≡ sets T.cmp [] new)) }
+        requires { IsFiniteIterable I.into_iter_gives I.IntoIter.can_next
+            I.IntoIter.remaining iter }
+        ensures { IfOk result (λ s. (new : List T)
+            × GivesAll I.into_iter_gives I.IntoIter.next_gives iter new
+            × (s.items ≡ sets T.cmp [] new)) }
     {
         let mut set = SortedVectorSet::new(alloc);
         set.extend(iter)?;
         Ok(set)
     }
 
-    /// The set of the items of `bset`, in O(n) time and without comparisons. It takes memory for
-    /// all items at once. Where there is none it is refused, and the items are gone.
+    /// Returns the set of the items of `bset`. Where memory is short, it is refused, and the items
+    /// are gone. Takes O(n) time, without comparisons, and memory for all items at once.
     pub fn try_from_btree_set(alloc: Global, bset: BTreeSet<T>) -> Result<Self, NoMemory>
     where
         T: Drop,
@@ -152,13 +155,13 @@ impl<T: Ord> SortedVectorSet<T> {
         Ok(SortedVectorSet { items })
     }
 
-    /// A set of clones of the items, in their order and with room for them, in O(n) time. The clone
-    /// of an item is equal to it, so the sets are equal. It takes memory, and is refused where
-    /// there is none.
+    /// Returns a set of clones of the items, in their order and with room for them. The clone of an
+    /// item is equal to it, so the sets are equal. Where memory is short, it is refused. Takes O(n)
+    /// time.
     pub fn try_clone(&self, alloc: Global) -> Result<Self, NoMemory>
     where
         T: Clone,
-        requires { (item copy : T) → T.is_clone item copy → T.eq copy item ≡ true }
+        requires { EachCloneIsEqual T.is_clone T.eq }
         ensures clones { IfOk result (λ s. AllZip T.is_clone self.now.items s.items) }
         ensures equal { IfOk result (λ s. pointwise T.eq s.items self.now.items ≡ true) }
     {
@@ -247,6 +250,10 @@ impl<T: Ord> SortedVectorSet<T> {
         ensures none { IfNone result (self.new.items ≡ self.old.items) }
     {
         let at = self.place_under(new);
+        let spare = self.items.capacity().saturating_sub(self.items.len());
+        if spare < new.len() && at <= self.items.len() / 2 {
+            return self.open_anew(new);
+        }
         if self.items.reserve(new.len()).is_err() {
             return None;
         }
@@ -254,6 +261,24 @@ impl<T: Ord> SortedVectorSet<T> {
             return None;
         };
         Some(tail)
+    }
+
+    // The same, and takes all items out: where there is too little room and at least half of the
+    // items would leave, none is moved twice then.
+    fn open_anew(&mut self, new: &[T]) -> Option<Vec<T>>
+        ensures tail { IfSome result (λ tail. tail.items ≡ self.old.items) }
+        ensures opened { IfSome result (λ _. self.new.items ≡ []) }
+        ensures ascending { IfSome result (λ _. IsStrictlySortedBy T.cmp self.old.items) }
+        ensures room { IfSome result (λ tail. vec_len tail + length new.now ≤ self.new.spare) }
+        ensures none { IfNone result (self.new.items ≡ self.old.items) }
+    {
+        let alloc = *self.items.allocator();
+        let least = self.items.len().checked_add(new.len())?;
+        let room = self.items.capacity().saturating_mul(2).max(least);
+        let Ok(items) = Vec::with_capacity(alloc, room) else {
+            return None;
+        };
+        Some(replace(&mut self.items, items))
     }
 
     // Puts the items of tail and new behind those that are there.

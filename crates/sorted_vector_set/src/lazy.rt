@@ -23,9 +23,9 @@ pub use shared::Intersection;
 pub(crate) type TwoSets<'a, T> = Sides<Iter<'a, T>, Iter<'a, T>>;
 
 impl<T: Ord> SortedVectorSet<T> {
-    /// The items of this set to which no item of `other` is equal, lazily and in ascending order.
-    /// Made in O(1) time, as are the other three; together the items of any of them take O(n + m)
-    /// comparisons. None takes memory.
+    /// Returns the items of this set to which no item of `other` is equal, lazily and in ascending
+    /// order. Takes O(1) time, and O(n + m) for all items together, as do the other three. None
+    /// takes memory.
     pub fn difference<'a>(&'a self, other: &'a Self) -> Difference<'a, T>
         ensures own { result.own ≡ self.now.items }
         ensures other { result.other ≡ other.now.items }
@@ -38,8 +38,8 @@ impl<T: Ord> SortedVectorSet<T> {
         }
     }
 
-    /// The items of either set to which no item of the other is equal, lazily and in ascending
-    /// order.
+    /// Returns the items of either set to which no item of the other is equal, lazily and in
+    /// ascending order.
     pub fn symmetric_difference<'a>(&'a self, other: &'a Self) -> SymmetricDifference<'a, T>
         ensures own { result.own ≡ self.now.items }
         ensures other { result.other ≡ other.now.items }
@@ -52,7 +52,8 @@ impl<T: Ord> SortedVectorSet<T> {
         }
     }
 
-    /// The items of this set to which an item of `other` is equal, lazily and in ascending order.
+    /// Returns the items of this set to which an item of `other` is equal, lazily and in ascending
+    /// order.
     pub fn intersection<'a>(&'a self, other: &'a Self) -> Intersection<'a, T>
         ensures own { result.own ≡ self.now.items }
         ensures other { result.other ≡ other.now.items }
@@ -65,8 +66,8 @@ impl<T: Ord> SortedVectorSet<T> {
         }
     }
 
-    /// The items of either set, lazily, in ascending order and each once; of two equal items that
-    /// of `other`.
+    /// Returns the items of either set, lazily, in ascending order and each once; of two equal
+    /// items that of `other`.
     pub fn union<'a>(&'a self, other: &'a Self) -> Union<'a, T>
         ensures own { result.own ≡ self.now.items }
         ensures other { result.other ≡ other.now.items }

@@ -12,11 +12,9 @@ mod compared;
 mod grow;
 mod iters;
 mod lazy;
-mod look;
 mod merge;
 #[cfg(test)]
 mod pair_tests;
-mod places;
 mod ranges;
 mod relations;
 mod retain;

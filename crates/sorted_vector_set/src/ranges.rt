@@ -16,9 +16,9 @@ use std::ops::Bound;
 use std::slice::Iter;
 
 impl<T: Ord> SortedVectorSet<T> {
-    /// The items that lie within `low` and `high`, in ascending order and from both ends. The
-    /// bounds are in order: the low item is at most the high one, and they aren't equal and both
-    /// excluded. It takes O(log n) comparisons and no memory.
+    /// Returns the items that lie within `low` and `high`, in ascending order and from both ends.
+    /// The bounds are in order: the low item is at most the high one, and they aren't equal and
+    /// both excluded. Takes O(log n) time and no memory.
     pub fn range(&self, low: Bound<&T>, high: Bound<&T>) -> Iter<'_, T>
         requires { AreInOrder T.cmp (bound_map (λ x. x.now) low) (bound_map (λ x. x.now) high) }
         ensures rest { iter_rest result ≡ items_within T.cmp (bound_map (λ x. x.now) low.entry)
@@ -33,10 +33,10 @@ impl<T: Ord> SortedVectorSet<T> {
         self.items[start..end].iter()
     }
 
-    /// Keeps the items below `q`, and answers a set of the others.
+    /// Keeps the items below `q`, and returns a set of the others.
     ///
-    /// Where memory is short the set stays. It takes O(log n) comparisons, and time for the items
-    /// that leave.
+    /// Where memory is short, the set stays. Takes O(log n) time, and time for the items that
+    /// leave.
     pub fn split_off(&mut self, alloc: Global, q: &T) -> Result<Self, NoMemory>
         ensures below { OnOk result (self.new.items
             ≡ filter (λ x. is_lt (T.cmp x q.now)) self.old.items) }

@@ -7,8 +7,8 @@ ghost use Rattle.sorted_iter.specs.Subsets.{are_disjoint, is_within, is_around};
 use crate::set::SortedVectorSet;
 
 impl<T: Ord> SortedVectorSet<T> {
-    /// Whether no item has an equal in `other`. It stops at the first two equal items: O(n + m)
-    /// comparisons. It takes no memory, as do the other two.
+    /// Returns whether no item has an equal in `other`. Stops at the first two equal items. Takes
+    /// O(n + m) time and no memory.
     pub fn is_disjoint(&self, other: &Self) -> bool
         ensures { result ≡ are_disjoint T.cmp self.now.items other.now.items }
     {
@@ -16,9 +16,9 @@ impl<T: Ord> SortedVectorSet<T> {
         shared.next().is_none()
     }
 
-    /// Whether each item has an equal in `other`. It stops at the first item that has none. The
-    /// items are looked up in `other` where that takes fewer comparisons than passing over both
-    /// sets: the lesser of O(n + m) and O(n log m).
+    /// Returns whether each item has an equal in `other`. Stops at the first item that has none.
+    /// The items are looked up in `other` where that takes fewer comparisons than passing over both
+    /// sets. Takes the lesser of O(n + m) and O(n log m) time, and no memory.
     pub fn is_subset(&self, other: &Self) -> bool
         ensures { result ≡ is_within T.cmp self.now.items other.now.items }
     {
@@ -32,8 +32,8 @@ impl<T: Ord> SortedVectorSet<T> {
         missing.next().is_none()
     }
 
-    /// Whether each item of `other` has an equal here. It costs what `is_subset` costs with the
-    /// sets exchanged.
+    /// Returns whether each item of `other` has an equal here. Costs what `is_subset` costs with
+    /// the sets exchanged.
     pub fn is_superset(&self, other: &Self) -> bool
         ensures { result ≡ is_around T.cmp self.now.items other.now.items }
     {
@@ -48,6 +48,7 @@ fn is_looking_up_cheaper(few: usize, many: usize) -> bool {
     few.saturating_mul(search) < few.saturating_add(many)
 }
 
+// Whether each item has an equal in the set.
 fn are_all_in<T: Ord>(items: &[T], set: &SortedVectorSet<T>) -> bool
     ensures { result ≡ list_all (has T.cmp set.now.items) items.now }
 {

@@ -7,8 +7,8 @@ ghost use Rattle.sorted_vector_set.specs.Calls.{CallableOnEach};
 use crate::set::SortedVectorSet;
 
 impl<T: Ord> SortedVectorSet<T> {
-    /// Calls `f` once on each item in ascending order, and keeps the items at which it answers
-    /// true. It takes O(n) time and no memory.
+    /// Calls `f` once on each item in ascending order, and keeps the items at which it returns
+    /// true. Takes O(n) time and no memory.
     pub fn retain<F: FnMut(&T) -> bool>(&mut self, mut f: F)
     where
         T: Drop,
@@ -21,7 +21,7 @@ impl<T: Ord> SortedVectorSet<T> {
     }
 }
 
-// Moves the items at which f answers true to the front, in their order, and answers how many they
+// Moves the items at which f returns true to the front, in their order, and returns how many they
 // are.
 fn bring_forward<T, F: FnMut(&T) -> bool>(f: &mut F, items: &mut [T]) -> usize
     requires { CallableOnEach (CalledAt F.FnMut) (TakesAt F.FnMut) f.old items.old }
@@ -38,7 +38,7 @@ fn bring_forward<T, F: FnMut(&T) -> bool>(f: &mut F, items: &mut [T]) -> usize
     kept
 }
 
-// What f answers at the item.
+// What f returns at the item.
 fn passes<T, F: FnMut(&T) -> bool>(f: &mut F, item: &T) -> bool
     requires { TakesAt F.FnMut f.old item.now }
     ensures { CalledAt F.FnMut f.old item.now result f.new }

@@ -1,21 +1,31 @@
-//! The calls of an occupied entry.
-ghost use Rattle.std.specs.Prelude.{◌≡◌, ◌≤◌, Some, slice_get};
+//! An occupied entry, and its calls.
+ghost use Rattle.std.specs.Prelude.{◌≡◌, ◌≤◌, ◌<◌, Some, length, slice_get};
 ghost use Rattle.std.specs.Borrow.{sem};
-ghost use Rattle.sorted_vector_map.specs.Entry.{Occupied, home, HasKey, stored, after_writing, after_removal, IsSamePlace, writes_through, writes_into};
 
-use super::OccupiedEntry;
+use crate::map::SortedVectorMap;
 use std::mem::replace;
 
+/// The place of a pair that is stored, from `SortedVectorMap::entry`, `first_entry` or
+/// `last_entry`.
+#[derive(Drop)]
+pub struct OccupiedEntry<'a, K: Ord, V> {
+    pub(crate) map: &'a mut SortedVectorMap<K, V>,
+    pub(crate) at: usize,
+    ghost within: { at < length map.now.pairs },
+}
+
 impl<'a, K: Ord, V> OccupiedEntry<'a, K, V> {
-    /// The stored key. It takes O(1) time and no memory, as do the other calls that take nothing
-    /// out.
+    ghost use Rattle.sorted_vector_map.specs.Entry.{Occupied, home, HasKey, stored, after_writing, after_removal, IsSamePlace, writes_through, writes_into};
+
+    /// Returns the stored key. Takes O(1) time and no memory, as do the other calls that take
+    /// nothing out.
     pub fn key(&self) -> &K
         ensures { HasKey (Occupied self.now) result.now }
     {
         self.pair().0
     }
 
-    /// The stored value.
+    /// Returns the stored value.
     pub fn get(&self) -> &V
         ensures { stored (Occupied self.now) ≡ Some result.now }
     {
@@ -30,7 +40,7 @@ impl<'a, K: Ord, V> OccupiedEntry<'a, K, V> {
         self.map.pair_at(here)
     }
 
-    /// The stored value for writing.
+    /// Returns the stored value for writing.
     pub fn get_mut(&mut self) -> &mut V
         ensures* writes_back { sem 𝓛 (writes_into K.row V.row self.entry result) }
         ensures value { stored (Occupied self.old) ≡ Some result.now }
@@ -39,7 +49,7 @@ impl<'a, K: Ord, V> OccupiedEntry<'a, K, V> {
         self.map.value_mut_at(here)
     }
 
-    /// The stored value for writing, as long as the map is lent.
+    /// Returns the stored value for writing, as long as the map is lent.
     pub fn into_mut(self) -> &'a mut V
         ensures* writes_back { sem 𝓛 (writes_through K.row V.row (Occupied self.entry) result) }
         ensures value { stored (Occupied self.entry) ≡ Some result.now }
@@ -48,7 +58,7 @@ impl<'a, K: Ord, V> OccupiedEntry<'a, K, V> {
         map.value_mut_at(at)
     }
 
-    /// Puts `value` in the place of the stored value, which is the answer. The stored key stays.
+    /// Puts `value` in the place of the stored value, which is returned. The stored key stays.
     pub fn insert(&mut self, value: V) -> V
         ensures replaced { stored (Occupied self.old) ≡ Some result }
         ensures stored { stored (Occupied self.new) ≡ Some value }
@@ -60,7 +70,7 @@ impl<'a, K: Ord, V> OccupiedEntry<'a, K, V> {
         replace(stored, value)
     }
 
-    /// Takes the stored pair out. Those behind it move, in time for their number. It takes no
+    /// Takes the stored pair out. Takes time for the pairs of greater keys, which move, and no
     /// memory.
     pub fn remove_entry(self) -> (K, V)
         ensures key { HasKey (Occupied self.entry) result.0 }
@@ -72,8 +82,7 @@ impl<'a, K: Ord, V> OccupiedEntry<'a, K, V> {
         self.map.remove_at(here)
     }
 
-    /// Takes the stored pair out and answers its value. It costs what `remove_entry` costs, and
-    /// takes no memory.
+    /// Takes the stored pair out and returns its value. Costs what `remove_entry` costs.
     pub fn remove(self) -> V
     where
         K: Drop,

@@ -10,8 +10,8 @@ use std::slice;
 
 /// The pairs of a map that are still to come.
 ///
-/// It gives them from both ends, in O(1) time each and without memory, and its hint is their exact
-/// number.
+/// Gives them from both ends, with their exact number as its hint. Each call takes O(1) time and no
+/// memory.
 #[derive(Drop)]
 pub struct Iter<'map, K, V> {
     pairs: slice::Iter<'map, (K, V)>,
@@ -74,8 +74,8 @@ impl<'map, K, V> ExactSizeIterator for Iter<'map, K, V> {
 
 /// The keys of a map that are still to come.
 ///
-/// It gives them from both ends, in O(1) time each and without memory, and its hint is their exact
-/// number.
+/// Gives them from both ends, with their exact number as its hint. Each call takes O(1) time and no
+/// memory.
 #[derive(Drop)]
 pub struct Keys<'map, K, V> {
     pairs: Iter<'map, K, V>,
@@ -127,8 +127,8 @@ impl<'map, K, V> DoubleEndedIterator for Keys<'map, K, V> {
 
 /// The values of a map that are still to come.
 ///
-/// It gives them from both ends, in O(1) time each and without memory, and its hint is their exact
-/// number.
+/// Gives them from both ends, with their exact number as its hint. Each call takes O(1) time and no
+/// memory.
 #[derive(Drop)]
 pub struct Values<'map, K, V> {
     pairs: Iter<'map, K, V>,

@@ -8,8 +8,8 @@ use std::vec;
 
 /// The keys that are still to come of a map that is used up.
 ///
-/// It gives them from both ends, in O(1) time each and without memory, and its hint is their exact
-/// number.
+/// Gives them from both ends, with their exact number as its hint. Each call takes O(1) time and no
+/// memory.
 #[derive(Drop)]
 pub struct IntoKeys<K, V> {
     pairs: vec::IntoIter<(K, V)>,
@@ -66,8 +66,8 @@ impl<K: Drop, V: Drop> DoubleEndedIterator for IntoKeys<K, V> {
 
 /// The values that are still to come of a map that is used up.
 ///
-/// It gives them from both ends, in O(1) time each and without memory, and its hint is their exact
-/// number.
+/// Gives them from both ends, with their exact number as its hint. Each call takes O(1) time and no
+/// memory.
 #[derive(Drop)]
 pub struct IntoValues<K, V> {
     pairs: vec::IntoIter<(K, V)>,

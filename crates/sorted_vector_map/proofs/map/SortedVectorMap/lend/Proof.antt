@@ -70,8 +70,8 @@ use Rattle.sorted_vector_map.specs.Content.{Content}
 use Rattle.sorted_vector_map.specs.Loans.{lie_at_each, lends_cells}
 use Rattle.sorted_vector_map.specs.Refilled.{refilled}
 use Rattle.sorted_vector_map.specs.Slots.{LentPair, pair_of, cell_of}
-use Rattle.sorted_vector_map.specs.declared.lent.Lent.{Lent}
-use Rattle.sorted_vector_map.specs.contracts.lent.Lent as Lent-type
+use Rattle.sorted_vector_map.specs.declared.lending.lent.Lent.{Lent}
+use Rattle.sorted_vector_map.specs.contracts.lending.lent.Lent as Lent-type
 use Rattle.sorted_vector_map.specs.contracts.map.SortedVectorMap.lend.{ended, clauses}
 use Rattle.sorted_vector_map.specs.contracts.map.SortedVectorMap.lend.Key.{name as #self}
 use Rattle.sorted_vector_map.proofs.LendForm.{Two, VR, KD, VD, PairR, SlotR, no_bytes, no_bytes_made, slot_size}

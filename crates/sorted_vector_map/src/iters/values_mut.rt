@@ -4,14 +4,14 @@ ghost use Rattle.std.specs.Iterator.{at_most};
 ghost use Rattle.sorted_vector_map.specs.Hints.{IsExact};
 ghost use Rattle.sorted_vector_map.specs.Lending.{LendsFirstOf, LendsLastOf, deref_mut};
 
-use crate::iter_mut::IterMut;
+use crate::iters::IterMut;
 use std::iter::ExactSizeIterator;
 use std::marker::Model;
 
 /// The values of a map that are still to come, for writing.
 ///
-/// It gives them from both ends, in O(1) time each and without memory, and its hint is their exact
-/// number.
+/// Gives them from both ends, with their exact number as its hint. Each call takes O(1) time and no
+/// memory.
 #[derive(Drop)]
 pub struct ValuesMut<'map, K, V> {
     pub(crate) pairs: IterMut<'map, K, V>,

@@ -1,7 +1,7 @@
 use Rattle.std.proofs.Common.{refl}
 use Rattle.sorted_vector_map.specs.Entry.{keeps_within}
 use Rattle.sorted_vector_map.proofs.EntryLemmas.{same_place}
-use Rattle.sorted_vector_map.proofs.entry.OccupiedEntry.get_mut.Goals as goal
+use Rattle.sorted_vector_map.proofs.entry.occupied.OccupiedEntry.get_mut.Goals as goal
 
 pub invariant_of-self-lent : goal.invariant_of-self-lent
 invariant_of-self-lent g c w = (keeps_within c.args.self.now w, tt)

@@ -1,6 +1,6 @@
 use Rattle.std.proofs.Common.{Some, ap, ◌∙◌}
 use Rattle.sorted_vector_map.proofs.EntryLemmas.{stays_in_place, stores}
-use Rattle.sorted_vector_map.proofs.entry.OccupiedEntry.insert.Goals as goal
+use Rattle.sorted_vector_map.proofs.entry.occupied.OccupiedEntry.insert.Goals as goal
 
 pub returns-clause-stored : goal.returns-clause-stored
 returns-clause-stored g c = stores c.args.self.now c.replace.new.dest ∙ ap Some c.replace.ensures.after

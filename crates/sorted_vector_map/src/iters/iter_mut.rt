@@ -12,17 +12,16 @@ ghost use Rattle.sorted_vector_map.specs.Lending.{LendsFirstOf, LendsLastOf, Com
 ghost use Rattle.sorted_vector_map.specs.Refilled.{lends_values};
 ghost use Rattle.sorted_vector_map.specs.Slots.{pair_of, cell_of};
 
-use crate::lent::Lent;
+use crate::iters::ValuesMut;
+use crate::lending::{Lent, Slot};
 use crate::map::SortedVectorMap;
-use crate::slot::Slot;
-use crate::values_mut::ValuesMut;
 use std::iter::ExactSizeIterator;
 use std::marker::Model;
 use std::ops::Bound;
 
 impl<K: Ord, V> SortedVectorMap<K, V> {
-    /// The pairs in the order of their keys, with their values for writing. The keys, their order
-    /// and their number stay. Made in O(1) time and without memory.
+    /// Returns the pairs in the order of their keys, with their values for writing. The keys, their
+    /// order and their number stay. Takes O(1) time and no memory.
     ///
     /// ```ignore
     /// for (_, price) in prices.iter_mut() {
@@ -38,7 +37,7 @@ impl<K: Ord, V> SortedVectorMap<K, V> {
         IterMut::new(slots, lent)
     }
 
-    /// The values in the order of their keys, for writing. Made in O(1) time and without memory.
+    /// Returns the values in the order of their keys, for writing. Takes O(1) time and no memory.
     pub fn values_mut(&mut self) -> ValuesMut<'_, K, V>
         ensures* writes_back { sem 𝓛 (lends_values K.row V.row K.Ord self.entry result.loan) }
         ensures values { ComesForWriting deref_mut (map (λ p. p.1) self.old.pairs) result.rest }
@@ -48,9 +47,9 @@ impl<K: Ord, V> SortedVectorMap<K, V> {
         }
     }
 
-    /// The pairs whose keys lie within `low` and `high`, with their values for writing. The bounds
-    /// are in order: the low key is at most the high one, and they aren't equal and both excluded.
-    /// It takes O(log n) comparisons and no memory.
+    /// Returns the pairs whose keys lie within `low` and `high`, with their values for writing. The
+    /// bounds are in order: the low key is at most the high one, and they aren't equal and both
+    /// excluded. Takes O(log n) time and no memory.
     pub fn range_mut(&mut self, low: Bound<&K>, high: Bound<&K>) -> IterMut<'_, K, V>
         requires { AreInOrder K.cmp (bound_map (λ k. k.now) low) (bound_map (λ k. k.now) high) }
         ensures* writes_back { sem 𝓛 (lends_values K.row V.row K.Ord self.entry result.loan) }
@@ -86,8 +85,8 @@ impl<'map, K: Ord, V> IntoIterator for &'map mut SortedVectorMap<K, V> {
 
 /// The pairs of a map that are still to come, with their values for writing.
 ///
-/// It gives them from both ends, in O(1) time each and without memory, and its hint is their exact
-/// number.
+/// Gives them from both ends, with their exact number as its hint. Each call takes O(1) time and no
+/// memory.
 #[derive(Drop)]
 pub struct IterMut<'map, K, V> {
     slots: &'map [Slot<K, V>],

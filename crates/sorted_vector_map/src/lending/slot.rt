@@ -4,7 +4,7 @@ ghost use base.Fml.{ffalse};
 ghost use denote.RawPtr.{Ptr};
 ghost use Rattle.sorted_vector_map.specs.Slots.{LentPair, lent_pair_code, cell_of, sees_key};
 
-use crate::lent::Lent;
+use super::Lent;
 use std::cell::UnsafeCell;
 use std::marker::{Move, Owns};
 

@@ -6,9 +6,8 @@ ghost use Rattle.ordered_lists.specs.Lists.{by_key};
 ghost use Rattle.sorted_vector_map.specs.Slots.{pair_of, cell_of};
 ghost use Rattle.sorted_vector_map.specs.Refilled.{lends_values};
 
-use crate::lent::Lent;
+use super::{Lent, Slot};
 use crate::map::SortedVectorMap;
-use crate::slot::Slot;
 use std::marker::PhantomData;
 
 impl<K: Ord, V> SortedVectorMap<K, V> {

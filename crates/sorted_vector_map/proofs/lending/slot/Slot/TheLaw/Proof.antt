@@ -13,8 +13,8 @@ use denote.Sharing.{said}
 use denote.SharingLaws.{said_shr_laws, beside_shr_laws}
 use denote.Struct.Lending.{lent_at, lent_at_shr_laws}
 use Rattle.sorted_vector_map.specs.Slots.{key_offset, value_offset, sees_key}
-use Rattle.sorted_vector_map.specs.contracts.slot.Slot as Slot-type
-use Rattle.sorted_vector_map.proofs.slot.Slot.TheLaw.Statement.{statement}
+use Rattle.sorted_vector_map.specs.contracts.lending.slot.Slot as Slot-type
+use Rattle.sorted_vector_map.proofs.lending.slot.Slot.TheLaw.Statement.{statement}
 
 pub shares : (K V : RattleType) (LK : Laws K) (LV : Laws V) → statement K V LK LV
 unfolding part_of

@@ -29,13 +29,13 @@ use denote.Triple.Walked.{Stays, stay_dropped, stay_ref, walk_of, ends_at, Goes-
 use Rattle.std.proofs.Common.{take, take-append-drop}
 use lib.ListN.{drop as drop_items}
 use Rattle.std.proofs.raw_atomic.Walks.{proved}
-use Rattle.sorted_vector_map.specs.declared.lent.Lent.{Lent}
-use Rattle.sorted_vector_map.specs.contracts.lent.Lent as Lent-type
+use Rattle.sorted_vector_map.specs.declared.lending.lent.Lent.{Lent}
+use Rattle.sorted_vector_map.specs.contracts.lending.lent.Lent as Lent-type
 use Rattle.sorted_vector_map.specs.Loans.{lends_cells}
-use Rattle.sorted_vector_map.specs.contracts.lent.Lent.narrow.{ended, clauses}
-use Rattle.sorted_vector_map.specs.contracts.lent.Lent.narrow.Key.{name as #self}
-use Rattle.sorted_vector_map.proofs.lent.Lent.narrow.Statement as stated
-use Rattle.sorted_vector_map.proofs.lent.Lent.narrow.Code as code
+use Rattle.sorted_vector_map.specs.contracts.lending.lent.Lent.narrow.{ended, clauses}
+use Rattle.sorted_vector_map.specs.contracts.lending.lent.Lent.narrow.Key.{name as #self}
+use Rattle.sorted_vector_map.proofs.lending.lent.Lent.narrow.Statement as stated
+use Rattle.sorted_vector_map.proofs.lending.lent.Lent.narrow.Code as code
 
 -- a part of a list parts the whole in three
 parted : {X : Type 0} (before l after : List X) (i n : ℕ)

@@ -1,7 +1,7 @@
--- `take_first` takes a value out of those that are lent, at the front. Assumes `Logic`.
-use mathlib.Core.Path.{◌≡◌, refl, ap, ◌∙◌}
+-- `take_last` takes a value out of those that are lent, at the back. Assumes `Logic`.
+use mathlib.Core.Path.{◌≡◌, refl, ap, sym, ◌∙◌}
 use Prim.Native.Nat.{ℕ, ◌+◌}
-use mathlib.Core.List.{List, [], ◌∷◌, ◌++◌}
+use mathlib.Core.List.{List, [], ◌∷◌, ◌++◌, append_assoc}
 use seplogic.Ra.Ura.{Ura}
 use mir.Syntax.{Fn, named}
 use mir.MapTy.{inst_fn}
@@ -35,16 +35,16 @@ use denote.Triple.Walked.{Stays, stay_dropped, stay_ref, walk_of, ends_at, Goes-
 use Rattle.std.proofs.VecSteps.Shapes.{after}
 use Rattle.std.proofs.raw_atomic.Walks.{proved}
 use Rattle.std_collections.proofs.TreeMemory.Lodging.{two_made}
-use Rattle.sorted_vector_map.specs.declared.lent.Lent.{Lent}
-use Rattle.sorted_vector_map.specs.contracts.lent.Lent as Lent-type
+use Rattle.sorted_vector_map.specs.declared.lending.lent.Lent.{Lent}
+use Rattle.sorted_vector_map.specs.contracts.lending.lent.Lent as Lent-type
 use Rattle.sorted_vector_map.specs.Loans.{lends_cells}
 use Rattle.sorted_vector_map.specs.Slots.{LentPair, cell_of}
-use Rattle.sorted_vector_map.specs.contracts.slot.Slot.take_first.{ended, clauses}
-use Rattle.sorted_vector_map.specs.contracts.slot.Slot.take_first.Key.{name as #self}
+use Rattle.sorted_vector_map.specs.contracts.lending.slot.Slot.take_last.{ended, clauses}
+use Rattle.sorted_vector_map.specs.contracts.lending.slot.Slot.take_last.Key.{name as #self}
 use Rattle.sorted_vector_map.proofs.LendForm.{Two, KR, VR, KD, VD, SlotR, to_key, to_value, two_args}
 use Rattle.sorted_vector_map.proofs.LendCells.{TakenOut, take_out_cell}
-use Rattle.sorted_vector_map.proofs.slot.Slot.take_first.Statement as stated
-use Rattle.sorted_vector_map.proofs.slot.Slot.take_first.Code as code
+use Rattle.sorted_vector_map.proofs.lending.slot.Slot.take_last.Statement as stated
+use Rattle.sorted_vector_map.proofs.lending.slot.Slot.take_last.Code as code
 
 module _ (E : Two) where
   abbrev routine : Fn
@@ -79,7 +79,7 @@ module _ (E : Two) {M : Type 1} {𝓤 : Ura M} (𝓛 : Logic 𝓤) (at : Memory 
     Finish = (walk_of 𝓛 (end E) (passing E) spec).post entry
 
     abbrev Asked : Type 0
-    Asked = (later_cells : List (Ptr × VD E)) × (d.cells ≡ cell_of s ∷ later_cells)
+    Asked = (earlier : List (Ptr × VD E)) × (d.cells ≡ earlier ++ cell_of s ∷ [])
 
     abbrev key : Bor (KD E)
     key = record { ref_ptr = (b, o + to_key E); now = s.key }
@@ -104,9 +104,11 @@ module _ (E : Two) {M : Type 1} {𝓤 : Ura M} (𝓛 : Logic 𝓤) (at : Memory 
           hide ! $ feq_i ! (List Val) (vptr b (o + to_key E) ∷ []) (vptr b (o + to_key E) ∷ []) refl $ fjoin ! $ move ! (1 ∷ []) $ feq_l ! (λ here.
           let cell : Ptr × VD E = (block_ptr b (o + to_value E), s.value) in
           let is : cell_of s ≡ cell = λ i. (here i, s.value) in
-          let earlier : List (Ptr × VD E) = d.before in let later_cells : List (Ptr × VD E) = asked.0 ++ d.after in
-          let was : d.before ++ (d.cells ++ d.after) ≡ earlier ++ cell ∷ later_cells = ap (λ cs. d.before ++ (cs ++ d.after)) (asked.1 ∙ ap (λ (c : Ptr × VD E). c ∷ asked.0) is) in
-          let stays : earlier ++ later_cells ≡ d.before ++ (asked.0 ++ d.after) = refl in
+          let earlier : List (Ptr × VD E) = d.before ++ asked.0 in let later_cells : List (Ptr × VD E) = d.after in
+          let was : d.before ++ (d.cells ++ d.after) ≡ earlier ++ cell ∷ later_cells =
+          ap (λ cs. d.before ++ (cs ++ d.after)) (asked.1 ∙ ap (λ (c : Ptr × VD E). asked.0 ++ c ∷ []) is)
+          ∙ ap (λ cs. d.before ++ cs) (append_assoc asked.0 (cell ∷ []) d.after) ∙ sym (append_assoc d.before asked.0 (cell ∷ d.after)) in
+          let stays : earlier ++ later_cells ≡ d.before ++ (asked.0 ++ d.after) = append_assoc d.before asked.0 d.after in
           move ! (1 ∷ []) $ fsplit3 ! $ drop ! $ move ! (4 ∷ []) $ split3 ! $
           -- [the pair's token; the loan's token; the others; what the loan is now; its borrow; the key; nothing]
           move ! (3 ∷ 4 ∷ 1 ∷ []) $ opens ! tt It {h = d} rb ro (λ vs. move ! (1 ∷ []) $ fsplit ! $ move ! (1 ∷ 6 ∷ []) $
@@ -128,12 +130,12 @@ module _ (E : Two) {M : Type 1} {𝓤 : Ura M} (𝓛 : Logic 𝓤) (at : Memory 
           feq_i ! (List Val) (vptr rb ro ∷ []) (vptr rb ro ∷ []) refl $ fjoin3 ! $ nothing ! $ move ! (1 ∷ 0 ∷ []) $ fjoin ! $ nothing ! $ fjoin ! $
           move ! (1 ∷ 0 ∷ []) $ group ! 3 $
           use0 𝓛 (raw (fact 𝓤 (d.tie ≡ d.tie))) (fact_i 𝓤 (d.tie ≡ d.tie) (emp 𝓤) refl) $
-          use0 𝓛 (raw (fact 𝓤 (d.cells ≡ cell_of s ∷ asked.0))) (fact_i 𝓤 (d.cells ≡ cell_of s ∷ asked.0) (emp 𝓤) asked.1) $ join ! $
+          use0 𝓛 (raw (fact 𝓤 (d.cells ≡ asked.0 ++ cell_of s ∷ []))) (fact_i 𝓤 (d.cells ≡ asked.0 ++ cell_of s ∷ []) (emp 𝓤) asked.1) $ join ! $
           use0 𝓛 (raw (fact 𝓤 ((s.key ≡ s.key) × (s.value ≡ s.value)))) (fact_i 𝓤 ((s.key ≡ s.key) × (s.value ≡ s.value)) (emp 𝓤) (refl, refl)) $ join ! $
           move ! (1 ∷ 0 ∷ []) $ done !))))
 
-pub take_first_spec : {M : Type 1} → stated.statement M
-take_first_spec 𝓤 𝓛 𝓜 𝓡 wired K V LK LV =
+pub take_last_spec : {M : Type 1} → stated.statement M
+take_last_spec 𝓤 𝓛 𝓜 𝓡 wired K V LK LV =
     let E : Two = record { key = K; key_laws = LK; val = V; val_laws = LV } in
     let c = spec E 𝓛 𝓜.mem 𝓡.returns in let 𝓣 = tables 𝓤 𝓛.H 𝓜 𝓡 𝓡.env in
     proved 𝓛 (end E) (passing E) c 𝓜 𝓡 (Goes-dropped 𝓛 4 (RefOf (0 ∷ []) tt (plain (λ _. SlotR E)) (λ _. tt)) yes (λ κs x f. refl), (Goes-ref 𝓛 4 1 tt (plain (Loan E)), tt))

@@ -7,8 +7,8 @@ use denote.SharingLaws.{nothing_shr_laws}
 use denote.Struct.Laws.{field_copy}
 use denote.Struct.Lending.{of_Lends, Lends-nothing}
 use Rattle.std.specs.contracts.marker.PhantomData as marker
-use Rattle.sorted_vector_map.specs.contracts.lent.Lent as L
-use Rattle.sorted_vector_map.proofs.lent.Lent.TheLaw.Statement.{statement}
+use Rattle.sorted_vector_map.specs.contracts.lending.lent.Lent as L
+use Rattle.sorted_vector_map.proofs.lending.lent.Lent.TheLaw.Statement.{statement}
 
 pub shares : (a : NamedLft) (V : RattleType) (laws : Laws V) → statement a V laws
 shares a V laws =
