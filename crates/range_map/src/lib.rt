@@ -4,17 +4,11 @@
 
 #[cfg(test)]
 mod callers;
-mod counting;
-mod elements;
-mod except;
 #[cfg(test)]
 mod from_iter_tests;
 mod iterated;
 pub mod laws;
 mod map;
-mod map_cloned;
-mod map_counting;
-mod map_error_shown;
 #[cfg(test)]
 mod map_tests;
 mod range;
@@ -27,9 +21,8 @@ mod whole_callers;
 #[cfg(test)]
 mod whole_tests;
 
-pub use elements::EltIter;
 #[doc(hidden)]
 pub use map::MapBuilder;
 pub use map::{OverlapError, RangeMap, TryFromIterError};
 pub use range::Range;
-pub use set::{RangeIter, RangeSet};
+pub use set::{EltIter, RangeIter, RangeSet};

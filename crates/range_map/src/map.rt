@@ -5,7 +5,9 @@ ghost use Rattle.std.specs.Slice.Iter.{iter_rest};
 ghost use Rattle.number_line.specs.Valued.{value_at, IsCanonicalMap};
 ghost use Rattle.range_map.specs.Valued.{pairs_in_numbers, IsMap};
 
+mod cloned;
 mod compared;
+mod counting;
 mod error;
 mod from_iter;
 mod growing;

@@ -4,12 +4,17 @@ ghost use Rattle.std.specs.Prelude.{[], ◌∷◌, length, IfOk, IsTrue, ◌↔�
 ghost use Rattle.number_line.specs.Ranges.{holds, IsCanonical};
 ghost use Rattle.range_map.specs.Range.{in_numbers};
 
+mod counting;
+mod elements;
+mod except;
 mod from_iter;
 mod iter;
 mod merging;
 
 use crate::range::Range;
 use element_core::{Element, NoMemory, is_below};
+pub(crate) use counting::size_of;
+pub use elements::EltIter;
 pub(crate) use from_iter::join_all;
 pub use iter::RangeIter;
 use merging::take_first;

@@ -1,7 +1,7 @@
 use Rattle.std.proofs.Common.{drop}
 use Rattle.number_line.proofs.SameLemmas.{IsSameSoFar}
 use Rattle.range_map.specs.Valued.{pairs_in_numbers, AreValuedRanges}
-use Rattle.range_map.proofs.map_cloned.clones_of_pairs.Given as goal
+use Rattle.range_map.proofs.map.cloned.clones_of_pairs.Given as goal
 
 abbrev pub invariant-loop-pair : goal.invariant-loop-pair
 invariant-loop-pair g l = record {

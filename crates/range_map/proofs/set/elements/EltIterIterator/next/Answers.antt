@@ -3,7 +3,7 @@ use Rattle.number_line.specs.Members.{members}
 use Rattle.range_map.specs.Set.{all_in_numbers}
 use Rattle.range_map.specs.Elements.{members_left}
 use Rattle.range_map.proofs.ElementLemmas.{without_first}
-use Rattle.range_map.proofs.elements.EltIterIterator.next.Goals as goal
+use Rattle.range_map.proofs.set.elements.EltIterIterator.next.Goals as goal
 
 pub returns-clause-steps : goal.returns-clause-steps
 returns-clause-steps g c =

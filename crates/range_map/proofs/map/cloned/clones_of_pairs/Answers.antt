@@ -4,7 +4,7 @@ use Rattle.number_line.proofs.SameLemmas.{same_start, same_step, same_end}
 use Rattle.range_map.specs.Valued.{pairs_in_numbers}
 use Rattle.range_map.proofs.DividedLemmas.{valued-push}
 use Rattle.range_map.proofs.GrowthLemmas.{in_numbers-push}
-use Rattle.range_map.proofs.map_cloned.clones_of_pairs.Goals as goal
+use Rattle.range_map.proofs.map.cloned.clones_of_pairs.Goals as goal
 
 pub loop-pair-init : goal.loop-pair-init
 loop-pair-init g c = record {

@@ -2,7 +2,7 @@ use Rattle.std.proofs.Common.{ap, sym, ◌∙◌}
 use Rattle.std.specs.Prelude.{not}
 use Rattle.number_line.specs.Ranges.{holds}
 use Rattle.number_line.proofs.ExceptLemmas.{singles_hold}
-use Rattle.range_map.proofs.except.all_but.Goals as goal
+use Rattle.range_map.proofs.set.except.all_but.Goals as goal
 
 pub returns : goal.returns
 returns g c = (

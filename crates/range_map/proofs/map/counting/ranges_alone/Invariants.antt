@@ -2,7 +2,7 @@ use Rattle.std.proofs.Common.{◌≡◌, ◌++◌, drop}
 use Rattle.range_map.specs.Bounds.{ranges_of}
 use Rattle.range_map.specs.Set.{all_in_numbers}
 use Rattle.range_map.specs.Valued.{pairs_in_numbers}
-use Rattle.range_map.proofs.map_counting.ranges_alone.Given as goal
+use Rattle.range_map.proofs.map.counting.ranges_alone.Given as goal
 
 abbrev pub invariant-loop-pair : goal.invariant-loop-pair
 invariant-loop-pair g l =

@@ -7,10 +7,9 @@ ghost use Rattle.range_map.specs.Bounds.{ranges_of};
 ghost use Rattle.range_map.specs.Set.{all_in_numbers};
 ghost use Rattle.range_map.specs.Valued.{pairs_in_numbers};
 
-use crate::counting::size_of;
 use crate::map::RangeMap;
 use crate::range::Range;
-use crate::set::{RangeSet, join_all};
+use crate::set::{RangeSet, join_all, size_of};
 use element_core::{Element, NoMemory, is_below};
 use std::alloc::Global;
 
