@@ -11,6 +11,8 @@ pub mod laws;
 mod map;
 #[cfg(test)]
 mod map_tests;
+#[doc(hidden)]
+pub mod pairs;
 mod range;
 mod set;
 pub mod sweep;
@@ -23,6 +25,6 @@ mod whole_tests;
 
 #[doc(hidden)]
 pub use map::MapBuilder;
-pub use map::{OverlapError, RangeMap, TryFromIterError};
+pub use map::{OverlapError, PairIter, RangeMap, TryFromIterError};
 pub use range::Range;
 pub use set::{EltIter, RangeIter, RangeSet};

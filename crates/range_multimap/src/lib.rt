@@ -4,6 +4,7 @@
 
 #[cfg(test)]
 mod callers;
+mod changing;
 mod grouped;
 mod grouping;
 mod multimap;

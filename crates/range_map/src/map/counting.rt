@@ -4,29 +4,11 @@ ghost use Rattle.number_line.specs.Members.{members};
 ghost use Rattle.number_line.specs.Ranges.{holds, IsCanonical};
 ghost use Rattle.number_line.specs.Valued.{value_at};
 ghost use Rattle.range_map.specs.Bounds.{ranges_of};
-ghost use Rattle.range_map.specs.Set.{all_in_numbers};
-ghost use Rattle.range_map.specs.Valued.{pairs_in_numbers};
 
 use crate::map::RangeMap;
-use crate::range::Range;
-use crate::set::{RangeSet, join_all, size_of};
+use crate::set::{RangeSet, size_of};
 use element_core::{Element, NoMemory, is_below};
 use std::alloc::Global;
-
-/// The ranges of the pairs, in their order.
-fn ranges_alone<T: Element, V>(
-    alloc: Global,
-    pairs: &[(Range<T>, V)],
-) -> Result<Vec<Range<T>>, NoMemory>
-    ensures { IfOk result (λ ranges. all_in_numbers T.numbers ranges.items
-        ≡ ranges_of (pairs_in_numbers T.numbers pairs.now)) }
-{
-    let mut ranges = Vec::with_capacity(alloc, pairs.len())?;
-    for pair in pairs {
-        ranges.push(pair.0)?;
-    }
-    Ok(ranges)
-}
 
 impl<T: Element, V: Eq> RangeMap<T, V> {
     /// Whether every value of the type is a key. Takes O(n) time for n ranges, and no memory.
@@ -64,15 +46,16 @@ impl<T: Element, V: Eq> RangeMap<T, V> {
         count
     }
 
-    /// The set of the keys. Takes O(n log n) time for n ranges, since they pass through a sort that
-    /// finds them in order, and memory.
+    /// The set of the keys. Takes O(n) time for n ranges.
     pub fn to_range_set(&self, alloc: Global) -> Result<RangeSet<T>, NoMemory>
         ensures canonical { IfOk result (IsCanonical T.numbers.least T.numbers.greatest) }
         ensures members { IfOk result (λ set. (x : ℤ)
             → holds set x ≡ is_some (value_at self.now x)) }
     {
-        let ranges = ranges_alone(alloc, self.pairs.as_slice())?;
-        let set = join_all(alloc, ranges)?;
+        let mut set = RangeSet::with_capacity(alloc, self.pairs.len())?;
+        for pair in &self.pairs {
+            set.push_joined(pair.0)?;
+        }
         Ok(set)
     }
 }

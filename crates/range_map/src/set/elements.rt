@@ -21,7 +21,7 @@ pub struct EltIter<'a, T: Element> {
 }
 
 /// The range without its first value, or `None` where it has no other.
-fn without_first<T: Element>(range: &Range<T>) -> Option<Range<T>>
+pub(crate) fn without_first<T: Element>(range: &Range<T>) -> Option<Range<T>>
     ensures more { IfSome result
         (λ _. T.numbers.number range.now.0 <ℤ T.numbers.number range.now.1) }
     ensures others { IfSome result (λ left. in_numbers T.numbers left

@@ -1,70 +1,85 @@
 //! Sets of all values but some.
-ghost use Rattle.std.specs.Prelude.{◌≡◌, ℤ, List, IfOk};
+ghost use Rattle.std.specs.Prelude.{◌≡◌, ℤ, pos, ◌+ℤ◌, ◌≤ℤ◌, List, IfOk, OnOk, IfSome, IfNone};
 ghost use Rattle.std.specs.Iterator.{IsFinite, Drains};
-ghost use Rattle.number_line.specs.Except.{never_fall, single_ranges, IsExcept};
-ghost use Rattle.range_map.specs.Set.{all_in_numbers};
+ghost use Rattle.number_line.specs.Except.{IsExcept};
+ghost use Rattle.range_map.specs.LeftOut.{number_after};
+ghost use Rattle.range_map.specs.Merging.{EndApart, IsGapPushed};
 ghost use Rattle.range_map.specs.Sweep.{numbers_of};
 
 use crate::range::Range;
-use crate::set::{RangeSet, join_all};
-use element_core::{Element, NoMemory, is_below};
+use crate::set::RangeSet;
+use element_core::{Element, NoMemory, is_at_most, is_below};
 use std::alloc::Global;
 
-/// Whether no value is less than the one before it.
-fn are_in_order<T: Element>(values: &[T]) -> bool
-    ensures { result ≡ never_fall (numbers_of T.numbers values.now) }
+/// The value behind `last`, or the least one where there is none; `None` where `last` is the
+/// greatest.
+fn value_after<T: Element>(last: Option<T>) -> Option<T>
+    ensures some { IfSome result (λ next. T.numbers.number next ≡ number_after T.numbers last) }
+    ensures none { IfNone result (number_after T.numbers last ≡ T.numbers.greatest +ℤ pos 1) }
 {
-    let Some((first, rest)) = values.split_first() else {
-        return true;
-    };
-    let mut before = *first;
-    for value in rest {
-        if is_below(*value, before) {
-            return false;
+    match last {
+        None => Some(T::min_value()),
+        Some(last) => last.successor(),
+    }
+}
+
+/// Puts the values behind `last` and below `x` behind the others, if there are any.
+fn push_gap_to<T: Element>(
+    set: &mut RangeSet<T>,
+    last: Option<T>,
+    x: T,
+) -> Result<(), NoMemory>
+    requires { EndApart (number_after T.numbers last) set.old }
+    ensures { OnOk result (IsGapPushed set.old (number_after T.numbers last)
+        (T.numbers.number x) set.new) }
+{
+    x.in_type();
+    if let Some(start) = value_after(last) {
+        if is_at_most(start, x) {
+            set.push_gap(start, &Range::single(x))?;
         }
-        before = *value;
     }
-    true
+    Ok(())
 }
 
-/// The values as ranges of one value each.
-fn singles<T: Element>(alloc: Global, values: &[T]) -> Result<Vec<Range<T>>, NoMemory>
-    ensures { IfOk result (λ ranges. all_in_numbers T.numbers ranges.items
-        ≡ single_ranges (numbers_of T.numbers values.now)) }
+/// Puts the values behind `last` behind the others, if there are any.
+fn push_gap_to_end<T: Element>(set: &mut RangeSet<T>, last: Option<T>) -> Result<(), NoMemory>
+    requires { EndApart (number_after T.numbers last) set.old }
+    ensures { OnOk result (IsGapPushed set.old (number_after T.numbers last)
+        (T.numbers.greatest +ℤ pos 1) set.new) }
 {
-    let mut ranges = Vec::with_capacity(alloc, values.len())?;
-    for value in values {
-        ranges.push(Range::single(*value))?;
+    if let Some(start) = value_after(last) {
+        start.in_type();
+        set.push_apart(Range::new(start, T::max_value()))?;
     }
-    Ok(ranges)
-}
-
-/// The set of all values but these, or `None` where some value is less than the one before it.
-fn all_but<T: Element>(alloc: Global, values: &[T]) -> Result<Option<RangeSet<T>>, NoMemory>
-    ensures { IfOk result (IsExcept T.numbers.least T.numbers.greatest
-        (numbers_of T.numbers values.now)) }
-{
-    if !are_in_order(values) {
-        return Ok(None);
-    }
-    let ranges = singles(alloc, values)?;
-    let given = join_all(alloc, ranges)?;
-    let set = given.negated(alloc)?;
-    Ok(Some(set))
+    Ok(())
 }
 
 impl<T: Element> RangeSet<T> {
     /// The set of all values but those that `it` gives, or `None` where some of these is less than
     /// the one before it. A value may come again and again; where none comes, the set is full.
-    /// Takes O(n) calls of `next`, O(n log n) time for n values, and memory for the values and for
-    /// the set.
+    /// Takes O(n) calls of `next` and O(n) time for n values, and memory for the set.
     pub fn except<I: Iterator<Item = T>>(alloc: Global, it: I) -> Result<Option<Self>, NoMemory>
         requires { I.can_next it × IsFinite (I.remaining it) }
         ensures { IfOk result (λ set. (values : List T) × Drains I.next_gives it values
             × IsExcept T.numbers.least T.numbers.greatest (numbers_of T.numbers values) set) }
     {
-        let values = Vec::from_iter(alloc, it)?;
-        let set = all_but(alloc, values.as_slice())?;
-        Ok(set)
+        let mut set = RangeSet::new(alloc);
+        let mut last = None;
+        let mut falls = false;
+        for x in it {
+            if !falls {
+                falls = last.is_some_and(|last| is_below(x, last));
+            }
+            if !falls {
+                push_gap_to(&mut set, last, x)?;
+                last = Some(x);
+            }
+        }
+        if falls {
+            return Ok(None);
+        }
+        push_gap_to_end(&mut set, last)?;
+        Ok(Some(set))
     }
 }

@@ -25,7 +25,7 @@ fn join_in_order<T: Element>(alloc: Global, ranges: &[Range<T>]) -> Result<Range
 }
 
 /// The set of the values in any of the ranges.
-pub(crate) fn join_all<T: Element>(
+fn join_all<T: Element>(
     alloc: Global,
     mut ranges: Vec<Range<T>>,
 ) -> Result<RangeSet<T>, NoMemory>
