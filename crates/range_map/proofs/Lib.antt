@@ -11,3 +11,4 @@ pub mod SweepLemmas
 pub mod BoundLemmas
 pub mod OddLemmas
 pub mod ElementLemmas
+pub mod ChangeLemmas

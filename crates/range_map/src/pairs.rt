@@ -18,7 +18,8 @@ use std::alloc::Global;
 
 /// Writes what `f` answers at the value of the pair in the value's place.
 fn answer<T: Element, V: Drop, F: FnMut(&V) -> V>(f: &mut F, pair: &mut (Range<T>, V))
-    requires { F.pre f.old pair.old.1 }
+    requires { F.IsAlwaysCallable f.old }
+    ensures callable { F.IsAlwaysCallable f.new }
     ensures called { CalledAt F.FnMut f.old pair.old.1 pair.new.1 f.new }
     ensures same_range { pair.new.0 ≡ pair.old.0 }
     ensures range { IsRange T.numbers pair.new.0 }
@@ -41,6 +42,15 @@ pub fn answer_each<T: Element, V: Drop, F: FnMut(&V) -> V>(f: &mut F, pairs: &mu
     }
 }
 
+/// What `f` answers at the value of the pair.
+fn passes<T: Element, V, F: FnMut(&V) -> bool>(f: &mut F, pair: &(Range<T>, V)) -> bool
+    requires { F.IsAlwaysCallable f.old }
+    ensures callable { F.IsAlwaysCallable f.new }
+    ensures called { CalledAt F.FnMut f.old pair.now.1 result f.new }
+{
+    f(&pair.1)
+}
+
 /// Moves the pairs at whose values `f` answers true to the front, in their order, and answers how
 /// many they are.
 fn bring_forward<T: Element, V, F: FnMut(&V) -> bool>(
@@ -53,7 +63,7 @@ fn bring_forward<T: Element, V, F: FnMut(&V) -> bool>(
 {
     let mut kept = 0;
     for at in 0..pairs.len() {
-        if f(&pairs[at].1) {
+        if passes(f, &pairs[at]) {
             pairs.swap(kept, at);
             kept += 1;
         }
