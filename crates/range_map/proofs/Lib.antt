@@ -12,3 +12,4 @@ pub mod BoundLemmas
 pub mod OddLemmas
 pub mod ElementLemmas
 pub mod ChangeLemmas
+pub mod KeyLemmas
