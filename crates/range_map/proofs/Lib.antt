@@ -13,3 +13,4 @@ pub mod OddLemmas
 pub mod ElementLemmas
 pub mod ChangeLemmas
 pub mod KeyLemmas
+pub mod PartLemmas

@@ -92,6 +92,7 @@ fn push_parts<T: Element, V: Clone + Drop>(
     ranges: &[Range<T>],
 ) -> Result<(), NoMemory>
     requires valued { AreValuedRanges T.numbers made.old.items }
+    requires range { IsRange T.numbers pair.now.0 }
     requires canonical { IsCanonical T.numbers.least T.numbers.greatest
         (all_in_numbers T.numbers ranges.now) }
     requires end_from { EndFrom (T.numbers.number pair.now.0.0)
