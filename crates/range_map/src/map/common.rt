@@ -24,6 +24,8 @@ impl<T: Element, V: Eq> RangeMap<T, V> {
         ensures parts { IfOk result
             (ArePairClones V.is_clone (parts_of_pairs self.now set.now)) }
     {
+        // This tells that the set is canonical.
+        set.ranges();
         let pairs = parts_in_set(alloc, self.pairs.as_slice(), set)?;
         Ok(RangeMap { pairs })
     }
