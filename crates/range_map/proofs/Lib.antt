@@ -14,3 +14,4 @@ pub mod ElementLemmas
 pub mod ChangeLemmas
 pub mod KeyLemmas
 pub mod PartLemmas
+pub mod LeftOutLemmas

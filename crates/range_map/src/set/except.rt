@@ -1,5 +1,7 @@
 //! Sets of all values but some.
-ghost use Rattle.std.specs.Prelude.{◌≡◌, ℤ, pos, ◌+ℤ◌, ◌≤ℤ◌, List, IfOk, OnOk, IfSome, IfNone};
+ghost use Rattle.std.specs.Prelude.{◌≡◌, ℤ, pos, ◌+ℤ◌, ◌≤ℤ◌, ◌<ℤ◌, List, Some, IfOk, OnOk};
+ghost use Rattle.std.specs.Prelude.{IfSome, IfNone};
+ghost use Rattle.std.specs.Bool.{OnTrue, OnFalse};
 ghost use Rattle.std.specs.Iterator.{IsFinite, Drains};
 ghost use Rattle.number_line.specs.Except.{IsExcept};
 ghost use Rattle.range_map.specs.LeftOut.{number_after};
@@ -23,6 +25,19 @@ fn value_after<T: Element>(last: Option<T>) -> Option<T>
     }
 }
 
+/// Whether `x` is less than `last`.
+fn is_below_last<T: Element>(x: T, last: Option<T>) -> bool
+    ensures below { OnTrue result ((v : T) × (last ≡ Some v)
+        × (T.numbers.number x <ℤ T.numbers.number v)) }
+    ensures not_below { OnFalse result
+        (IfSome last (λ v. T.numbers.number v ≤ℤ T.numbers.number x)) }
+{
+    match last {
+        Some(last) => is_below(x, last),
+        None => false,
+    }
+}
+
 /// Puts the values behind `last` and below `x` behind the others, if there are any.
 fn push_gap_to<T: Element>(
     set: &mut RangeSet<T>,
@@ -30,8 +45,10 @@ fn push_gap_to<T: Element>(
     x: T,
 ) -> Result<(), NoMemory>
     requires { EndApart (number_after T.numbers last) set.old }
-    ensures { OnOk result (IsGapPushed set.old (number_after T.numbers last)
+    ensures pushed { OnOk result (IsGapPushed set.old (number_after T.numbers last)
         (T.numbers.number x) set.new) }
+    ensures low { T.numbers.least ≤ℤ T.numbers.number x }
+    ensures high { T.numbers.number x ≤ℤ T.numbers.greatest }
 {
     x.in_type();
     if let Some(start) = value_after(last) {
@@ -68,13 +85,15 @@ impl<T: Element> RangeSet<T> {
         let mut last = None;
         let mut falls = false;
         for x in it {
-            if !falls {
-                falls = last.is_some_and(|last| is_below(x, last));
+            if falls {
+                continue;
             }
-            if !falls {
-                push_gap_to(&mut set, last, x)?;
-                last = Some(x);
+            if is_below_last(x, last) {
+                falls = true;
+                continue;
             }
+            push_gap_to(&mut set, last, x)?;
+            last = Some(x);
         }
         if falls {
             return Ok(None);
