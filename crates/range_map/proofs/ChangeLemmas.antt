@@ -47,7 +47,7 @@ module _ {T V : Type 0} (numbers : Numbering T) (same : V → V → Bool) where
         let off : goes_on same (pair_in_numbers numbers k) (pair_in_numbers numbers x) ≡ false = sym turn.goes_on in
         let put = put_behind-last same done (pair_in_numbers numbers k) (pair_in_numbers numbers x) in
         let one : put_behind same (done ++ pair_in_numbers numbers k ∷ []) (pair_in_numbers numbers x)
-            ≡ (done ++ pair_in_numbers numbers k ∷ []) ++ pair_in_numbers numbers x ∷ [] =
+        ≡ (done ++ pair_in_numbers numbers k ∷ []) ++ pair_in_numbers numbers x ∷ [] =
         rw off at put ∙ sym (append_assoc done (pair_in_numbers numbers k ∷ []) (pair_in_numbers numbers x ∷ [])) in
         let rest = joined_from t x xs zs (done ++ pair_in_numbers numbers k ∷ []) (rw turn.next at d) in
         let last : done ++ pair_in_numbers numbers k ∷ pairs_in_numbers numbers zs ≡ done ++ pairs_in_numbers numbers ys = rw (is, turn.joined) refl in

@@ -5,6 +5,8 @@
 #[cfg(test)]
 mod callers;
 #[cfg(test)]
+mod changing_tests;
+#[cfg(test)]
 mod from_iter_tests;
 mod iterated;
 pub mod laws;

@@ -15,8 +15,8 @@ mod iter;
 mod merging;
 
 use crate::range::Range;
-use element_core::{Element, NoMemory, is_below};
 pub(crate) use counting::size_of;
+use element_core::{Element, NoMemory, is_below};
 pub use elements::EltIter;
 pub(crate) use elements::without_first;
 pub use iter::RangeIter;

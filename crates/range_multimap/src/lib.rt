@@ -5,6 +5,8 @@
 #[cfg(test)]
 mod callers;
 mod changing;
+#[cfg(test)]
+mod changing_tests;
 mod grouped;
 mod grouping;
 mod multimap;

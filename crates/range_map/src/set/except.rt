@@ -39,11 +39,7 @@ fn is_below_last<T: Element>(x: T, last: Option<T>) -> bool
 }
 
 /// Puts the values behind `last` and below `x` behind the others, if there are any.
-fn push_gap_to<T: Element>(
-    set: &mut RangeSet<T>,
-    last: Option<T>,
-    x: T,
-) -> Result<(), NoMemory>
+fn push_gap_to<T: Element>(set: &mut RangeSet<T>, last: Option<T>, x: T) -> Result<(), NoMemory>
     requires { EndApart (number_after T.numbers last) set.old }
     ensures pushed { OnOk result (IsGapPushed set.old (number_after T.numbers last)
         (T.numbers.number x) set.new) }

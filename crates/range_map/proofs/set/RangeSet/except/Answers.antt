@@ -58,6 +58,8 @@ push_gap_to_end-requires g c =
 pub returns : goal.returns
 returns g c =
     let so_far = rw c.if-falls-2.false at c.loop-x.invariant.walked in
-    let ran = subst (λ s. Yields g.I.Iterator.next_gives s c.loop-x.yielded c.loop-x.x-iterator) c.into_iter-x-iterator.ensures.into_iter_gives c.loop-x.yielded_by in
-    (c.loop-x.yielded, (c.next.new.self, (c.loop-x.x-iterator, ran, c.in-None.ensures.steps)),
-      (so_far.in_order, left_out_end _ _ _ _ _ so_far.left_out c.push_gap_to_end.new.set c.in_ok-push_gap_to_end.ensures))
+    let ran = subst (λ s. Yields g.I.Iterator.next_gives s c.loop-x.yielded c.loop-x.x-iterator) c.into_iter-x-iterator.ensures.into_iter_gives c.loop-x.yielded_by in (
+      c.loop-x.yielded,
+      (c.next.new.self, (c.loop-x.x-iterator, ran, c.in-None.ensures.steps)),
+      (so_far.in_order, left_out_end _ _ _ _ _ so_far.left_out c.push_gap_to_end.new.set c.in_ok-push_gap_to_end.ensures),
+    )
