@@ -1,5 +1,6 @@
 //! What no contract shows of multimaps that are changed, or cut by a set.
 use crate::RangeMultiMap;
+use crate::callers::drop_value;
 use element_core::NoMemory;
 use range_map::{Range, RangeSet};
 use std::alloc::Global;
@@ -83,5 +84,14 @@ fn pairs_are_kept_by_one_call_each(rt: HostRuntime) -> Result<(), Fail> {
     let want = [(3, 8, 1), (3, 8, 1), (0, 0, 3)];
     assert_eq!(rt; rows_of(alloc, &map)?.as_slice(), want.as_slice());
     assert!(rt; count == 4);
+    Ok(())
+}
+
+#[test]
+fn pairs_of_a_value_are_dropped(rt: HostRuntime) -> Result<(), Fail> {
+    let alloc = rt.alloc();
+    let mut map = map_of(alloc, [(3, 8, 1), (1, 5, 2), (3, 8, 1)].as_slice())?;
+    drop_value(&mut map, 1);
+    assert_eq!(rt; rows_of(alloc, &map)?.as_slice(), [(1, 5, 2)].as_slice());
     Ok(())
 }
