@@ -1,6 +1,6 @@
 -- Ranges that begin in order, joined one after another.
 use Rattle.std.proofs.Common.{◌≡◌, ℕ, suc, ◌+◌, List, [], ◌∷◌, refl, ap, arith, sym, ◌∙◌}
-use Rattle.std.specs.Prelude.{ℤ, pos, ◌≤ℤ◌, Bool, true, false, ◌||◌, nat_lt, cond, IfOk, Result, Ok, Err}
+use Rattle.std.specs.Prelude.{ℤ, pos, ◌+ℤ◌, ◌≤ℤ◌, Bool, true, false, ◌||◌, nat_lt, cond, IfOk, Result, Ok, Err}
 use Rattle.std.specs.List.{sum_by}
 use Rattle.std.specs.List.Sorted.{IsSortedBy, IsPermutation}
 use Rattle.std.specs.Ordering.{int_cmp, is_lt}
@@ -9,7 +9,9 @@ use Rattle.std.proofs.lemmas.List.Sums.{sum_by-cons}
 use Rattle.std.proofs.lemmas.List.Sorted.{sum_by-IsPermutation}
 use Rattle.std.proofs.Math.Bool.{or_assoc, or-false}
 use Rattle.number_line.specs.Ranges.{lies_in, holds, IsCanonical}
+use Rattle.number_line.specs.Valued.{IsCanonicalMap}
 use Rattle.element_core.specs.Numbering.{Numbering}
+use Rattle.range_map.specs.Bounds.{ranges_of}
 use Rattle.range_map.specs.Range.{in_numbers}
 use Rattle.range_map.specs.Set.{all_in_numbers}
 use Rattle.range_map.specs.Merging.{BeginBy, IsJoined, BeginInOrder, BeginInOrderFrom}
@@ -91,3 +93,13 @@ module _ {T : Type 0} (numbers : Numbering T) where
   -- and so their order doesn't matter
   pub holds_permuted : (old new : List (T × T)) → IsPermutation old new → (x : ℤ) → holds (all_in_numbers numbers new) x ≡ holds (all_in_numbers numbers old) x
   holds_permuted old new p x = holds_by_count x new ∙ (ap (nat_lt 0) (sum_by-IsPermutation (around x) old new p) ∙ sym (holds_by_count x old))
+
+-- the ranges of a canonical list of ranges with values begin in order
+module _ {V : Type 0} (same : V → V → Bool) (hi : ℤ) where
+  order_from : (n m : ℤ) (list : List ((ℤ × ℤ) × V)) → m ≤ℤ n → IsCanonicalMap same n hi list → BeginInOrderFrom m (ranges_of list)
+  order_from n m [] h c = tt
+  order_from n m (p ∷ rest) h c = (omega (arith, ints, h, c.0), order_from (p.0.1 +ℤ pos 1) p.0.0 rest (omega (arith, ints, c.1)) c.4)
+
+  pub map_in_order : (lo : ℤ) (list : List ((ℤ × ℤ) × V)) → IsCanonicalMap same lo hi list → BeginInOrder (ranges_of list)
+  map_in_order lo [] c = tt
+  map_in_order lo (p ∷ rest) c = order_from (p.0.1 +ℤ pos 1) p.0.0 rest (omega (arith, ints, c.1)) c.4

@@ -11,3 +11,7 @@ pub mod SweepLemmas
 pub mod BoundLemmas
 pub mod OddLemmas
 pub mod ElementLemmas
+pub mod ChangeLemmas
+pub mod KeyLemmas
+pub mod PartLemmas
+pub mod LeftOutLemmas

@@ -3,7 +3,7 @@ use Rattle.std.specs.Prelude.{ℤ, Option, Some, None, List, ◌∷◌}
 use Rattle.element_core.specs.Numbering.{Numbering}
 use Rattle.number_line.specs.Members.{members}
 use Rattle.range_map.specs.Set.{all_in_numbers}
-use Rattle.range_map.specs.declared.elements.EltIter.{EltIter}
+use Rattle.range_map.specs.declared.set.elements.EltIter.{EltIter}
 
 -- the range that was begun, if there is one, before the others
 abbrev pub begun_before : {R : Type 0} → Option R → List R → List R

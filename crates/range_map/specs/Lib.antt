@@ -10,3 +10,6 @@ pub mod Bounds
 pub mod Making
 pub mod Elements
 pub mod ErrorText
+pub mod Changing
+pub mod KeysValues
+pub mod LeftOut

@@ -13,6 +13,11 @@ abbrev pub EndApart : ℤ → List (ℤ × ℤ) → Type 0
 EndApart n [] = Unit {0}
 EndApart n (r ∷ rest) = ((r.1 +ℤ pos 2) ≤ℤ n) × EndApart n rest
 
+-- each range ends at n or behind it
+abbrev pub EndFrom : ℤ → List (ℤ × ℤ) → Type 0
+EndFrom n [] = Unit {0}
+EndFrom n (r ∷ rest) = (n ≤ℤ r.1) × EndFrom n rest
+
 -- r is a first range of `left` or `right`, and `left_after` and `right_after` are left of them without it: no range begins before r
 pub record IsTaken (hi : ℤ) (left right : List (ℤ × ℤ)) (r : ℤ × ℤ) (left_after right_after : List (ℤ × ℤ)) : Type 0 where
   pub members : (x : ℤ) → (holds left x || holds right x) ≡ (lies_in r x || (holds left_after x || holds right_after x))

@@ -4,19 +4,17 @@
 
 #[cfg(test)]
 mod callers;
-mod counting;
-mod elements;
-mod except;
+#[cfg(test)]
+mod changing_tests;
 #[cfg(test)]
 mod from_iter_tests;
 mod iterated;
 pub mod laws;
 mod map;
-mod map_cloned;
-mod map_counting;
-mod map_error_shown;
 #[cfg(test)]
 mod map_tests;
+#[doc(hidden)]
+pub mod pairs;
 mod range;
 mod set;
 pub mod sweep;
@@ -27,9 +25,8 @@ mod whole_callers;
 #[cfg(test)]
 mod whole_tests;
 
-pub use elements::EltIter;
 #[doc(hidden)]
 pub use map::MapBuilder;
-pub use map::{OverlapError, RangeMap, TryFromIterError};
+pub use map::{OverlapError, PairIter, RangeMap, TryFromIterError};
 pub use range::Range;
-pub use set::{RangeIter, RangeSet};
+pub use set::{EltIter, RangeIter, RangeSet};

@@ -5,16 +5,22 @@ ghost use Rattle.std.specs.Slice.Iter.{iter_rest};
 ghost use Rattle.number_line.specs.Valued.{value_at, IsCanonicalMap};
 ghost use Rattle.range_map.specs.Valued.{pairs_in_numbers, IsMap};
 
+mod changing;
+mod cloned;
+mod common;
 mod compared;
+mod counting;
 mod error;
 mod from_iter;
 mod growing;
+mod pair_iter;
 
 use crate::range::Range;
 use element_core::{Element, NoMemory};
 pub use error::{OverlapError, TryFromIterError};
 #[doc(hidden)]
 pub use growing::MapBuilder;
+pub use pair_iter::PairIter;
 use std::alloc::Global;
 use std::marker::Model;
 use std::slice::Iter;

@@ -1,6 +1,8 @@
 //! What no contract shows of counts, members and sets of all but some: that the calls succeed where
 //! memory suffices, and that the contracts say what is meant.
-use crate::whole_callers::{free_days, lets_in};
+use crate::whole_callers::{
+    cancel, day_by_day, free_days, hand_over, in_season, lets_in, shut_but,
+};
 use crate::{Range, RangeMap, RangeSet};
 use element_core::{Element, NoMemory};
 use std::alloc::Global;
@@ -22,12 +24,23 @@ fn map_of(alloc: Global, rows: &[(u8, u8, u8)]) -> Result<RangeMap<u8, u8>, NoMe
 
 fn fullness<T: Element>(rt: &impl Abort, alloc: Global) -> Result<(), NoMemory> {
     let full = RangeSet::<T>::full(alloc)?;
-    let least = RangeSet::single(alloc, T::min_value())?;
-    let greatest = RangeSet::single(alloc, T::max_value())?;
+    let but_least = all_but(alloc, T::min_value())?;
+    let but_greatest = all_but(alloc, T::max_value())?;
     assert!(rt; full.is_full() && full.negated(alloc)?.is_empty());
-    assert!(rt; !least.is_full() && !least.negated(alloc)?.is_full());
-    assert!(rt; !greatest.negated(alloc)?.is_full() && !RangeSet::<T>::new(alloc).is_full());
+    assert!(rt; !but_least.is_full() && but_least.num_ranges() == 1);
+    assert!(rt; !but_greatest.is_full() && but_greatest.num_ranges() == 1);
+    assert!(rt; !but_least.contains(T::min_value()) && but_least.contains(T::max_value()));
+    assert!(rt; but_greatest.contains(T::min_value()) && !but_greatest.contains(T::max_value()));
     Ok(())
+}
+
+/// The set of all values but one, which is that of `except` and of `negated`.
+fn all_but<T: Element>(alloc: Global, x: T) -> Result<RangeSet<T>, NoMemory> {
+    let set = RangeSet::single(alloc, x)?.negated(alloc)?;
+    match RangeSet::except(alloc, [x, x].as_slice().iter().copied())? {
+        Some(other) if other == set => Ok(set),
+        _ => RangeSet::full(alloc),
+    }
 }
 
 #[test]
@@ -147,6 +160,42 @@ fn days_that_are_free(rt: HostRuntime) -> Result<(), Fail> {
 fn addresses_that_are_let_in(rt: HostRuntime) -> Result<(), Fail> {
     let shut = RangeSet::from_range(rt.alloc(), Range::new(10, 20))?;
     let rows = [(9, true), (10, false), (20, false), (21, true)];
+    for (address, is_in) in rows {
+        assert_eq!(rt; lets_in(&shut, address), is_in);
+    }
+    Ok(())
+}
+
+#[test]
+fn bookings_that_are_handed_over_or_cancelled(rt: HostRuntime) -> Result<(), Fail> {
+    let mut table = bookings(rt.alloc())?;
+    hand_over(&mut table, 42, 41);
+    assert!(rt; table.num_ranges() == 1 && table.get(9) == Some(&41));
+    cancel(&mut table, 42);
+    assert!(rt; table.num_keys() == 7);
+    cancel(&mut table, 41);
+    assert!(rt; table.is_empty());
+    Ok(())
+}
+
+#[test]
+fn bookings_of_a_season(rt: HostRuntime) -> Result<(), Fail> {
+    let table = bookings(rt.alloc())?;
+    let season = RangeSet::from_range(rt.alloc(), Range::new(5, 6))?;
+    let some = in_season(rt.alloc(), &table, &season)?;
+    let days = day_by_day(rt.alloc(), &some)?;
+    assert_eq!(rt; days.as_slice(), [(5, 41), (6, 42)].as_slice());
+    Ok(())
+}
+
+#[test]
+fn addresses_that_are_let_in_alone(rt: HostRuntime) -> Result<(), Fail> {
+    let mut allowed = Vec::new(rt.alloc());
+    for address in [7, 7, u32::MAX] {
+        allowed.push(address)?;
+    }
+    let shut = shut_but(rt.alloc(), allowed)?.expect(&rt, "the addresses don't fall");
+    let rows = [(0, false), (7, true), (8, false), (u32::MAX, true)];
     for (address, is_in) in rows {
         assert_eq!(rt; lets_in(&shut, address), is_in);
     }

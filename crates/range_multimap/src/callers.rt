@@ -1,5 +1,5 @@
-//! What a caller learns of a multimap: one more pair.
-ghost use Rattle.std.specs.Prelude.{◌≡◌, [], ◌∷◌, ◌++◌, OnOk};
+//! What a caller learns of a multimap: one more pair, and some pairs less.
+ghost use Rattle.std.specs.Prelude.{◌≡◌, [], ◌∷◌, ◌++◌, ◌==◌, not, filter, OnOk};
 
 use crate::RangeMultiMap;
 use element_core::NoMemory;
@@ -17,4 +17,11 @@ pub(crate) fn push_pair(
         Ok(()) => Ok(()),
         Err(_) => Err(NoMemory),
     }
+}
+
+/// Takes the pairs with a value out.
+pub(crate) fn drop_value(pairs: &mut RangeMultiMap<i32, u8>, value: u8)
+    ensures { pairs.new ≡ filter (λ pair. not (pair.1 == value)) pairs.old }
+{
+    pairs.retain_values(|other| *other != value);
 }

@@ -4,6 +4,9 @@
 
 #[cfg(test)]
 mod callers;
+mod changing;
+#[cfg(test)]
+mod changing_tests;
 mod grouped;
 mod grouping;
 mod multimap;

@@ -1,10 +1,12 @@
-//! What is answered where pairs of a range and a value don't make a map.
-ghost use Rattle.std.specs.Prelude.{◌≡◌};
+//! What is answered where pairs of a range and a value don't make a map, and what that writes.
+ghost use Rattle.std.specs.Prelude.{◌≡◌, Some, codes};
 ghost use Rattle.range_map.specs.declared.map.error.TryFromIterError.TheVariants.{NoMemory};
 
 use crate::map::RangeMap;
 use crate::range::Range;
 use element_core::{Element, NoMemory};
+use std::error::Error;
+use std::fmt;
 
 /// Why pairs didn't make a map.
 #[derive(Debug, Drop)]
@@ -31,3 +33,28 @@ impl<T: Element, V: Eq> From<NoMemory> for TryFromIterError<T, V> {
         TryFromIterError::NoMemory
     }
 }
+
+impl<T: Element, V: Eq> fmt::Display for OverlapError<T, V> {
+    ghost output = { λ _. Some (codes "some ranges overlap with different values") };
+
+    fn fmt<W: fmt::Write>(&self, f: &mut fmt::Formatter<W>) -> fmt::Result {
+        write!(f, "some ranges overlap with different values")
+    }
+}
+
+impl<T: Element + fmt::Debug, V: Eq + fmt::Debug + Drop> Error for OverlapError<T, V> {}
+
+impl<T: Element, V: Eq> fmt::Display for TryFromIterError<T, V> {
+    ghost use Rattle.range_map.specs.ErrorText.{error_text};
+
+    ghost output = { λ error. Some (error_text error) };
+
+    fn fmt<W: fmt::Write>(&self, f: &mut fmt::Formatter<W>) -> fmt::Result {
+        match self {
+            TryFromIterError::Overlap(_) => write!(f, "some ranges overlap with different values"),
+            TryFromIterError::NoMemory => write!(f, "no memory"),
+        }
+    }
+}
+
+impl<T: Element + fmt::Debug, V: Eq + fmt::Debug + Drop> Error for TryFromIterError<T, V> {}

@@ -25,10 +25,7 @@ fn join_in_order<T: Element>(alloc: Global, ranges: &[Range<T>]) -> Result<Range
 }
 
 /// The set of the values in any of the ranges.
-pub(crate) fn join_all<T: Element>(
-    alloc: Global,
-    mut ranges: Vec<Range<T>>,
-) -> Result<RangeSet<T>, NoMemory>
+fn join_all<T: Element>(alloc: Global, mut ranges: Vec<Range<T>>) -> Result<RangeSet<T>, NoMemory>
     ensures canonical { IfOk result (IsCanonical T.numbers.least T.numbers.greatest) }
     ensures members { IfOk result
         (λ set. (x : ℤ) → holds set x ≡ holds (all_in_numbers T.numbers ranges.items) x) }
