@@ -1,14 +1,13 @@
 -- Lists whose values are clones of those of another list, and clones that are put behind others.
-use Rattle.std.proofs.Common.{◌≡◌, List, [], ◌∷◌, ◌++◌, refl, ap, arith, sym, ◌∙◌, append_assoc}
-use Rattle.std.specs.Prelude.{ℤ, ◌≤ℤ◌, Bool, true, false, ◌&&◌, if◌then◌else◌, Option, Some, None}
-use Rattle.std.specs.Cmp.{IsEquivalence}
+use Rattle.std.proofs.Common.{◌≡◌, List, [], ◌∷◌, ◌++◌, refl, ap, ◌∙◌, append_assoc}
+use Rattle.std.specs.Prelude.{ℤ, Bool, true, false, if◌then◌else◌, Some}
 use Rattle.std.specs.List.{AllZip}
 use Rattle.std.specs.Option.{option_eq}
 use Rattle.std.specs.Ordering.{int_eq}
 use Rattle.std.proofs.lemmas.Bool.Decides.{Decides-int_eq}
 use Rattle.number_line.specs.Ranges.{lies_in}
-use Rattle.number_line.specs.Valued.{value_at, same_valued, same_list}
-use Rattle.number_line.specs.Parts.{IsPairClone, ArePairClones}
+use Rattle.number_line.specs.Valued.{value_at, same_list}
+use Rattle.number_line.specs.Parts.{ArePairClones}
 use Rattle.number_line.proofs.ZippedLemmas.{IsZipped}
 
 module _ {A B : Type 0} (R : A → B → Type 0) where

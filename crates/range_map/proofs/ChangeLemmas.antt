@@ -1,8 +1,7 @@
 -- Lists of ranges with values whose values are written, of which some pairs are kept, and whose touching ranges with the same value are joined.
-use Rattle.std.proofs.Common.{◌≡◌, ℕ, zero, suc, ◌+◌, ◌<◌, ◌≤◌, Bool, true, false, cond, List, [], ◌∷◌, ◌++◌, length, get_or, take, drop, set, map, refl, ap, sym, ◌∙◌, arith, subst, append_assoc}
+use Rattle.std.proofs.Common.{◌≡◌, ℕ, zero, suc, ◌+◌, ◌<◌, ◌≤◌, Bool, true, false, List, [], ◌∷◌, ◌++◌, length, get_or, take, drop, set, map, refl, ap, sym, ◌∙◌, arith, append_assoc}
 use Rattle.std.specs.Prelude.{ℤ, pos, ◌+ℤ◌, ◌≤ℤ◌, ◌<ℤ◌}
 use Rattle.std.specs.Bool.{MatchBool}
-use Rattle.std.specs.Int.{int_min, int_max}
 use Rattle.std.specs.List.{fold, items_where_true, swap}
 use Rattle.std.specs.List.Retain.{RetainsInTurn, ReturnsInTurn, IsFiltered, DedupsFrom, DedupsAll}
 use Rattle.std.proofs.lemmas.Int.{ints}
@@ -15,7 +14,7 @@ use Rattle.number_line.proofs.AnsweredLemmas.{IsAnsweredSoFar, answered_start, a
 use Rattle.number_line.proofs.MergedLemmas.{put_behind-last}
 use Rattle.number_line.proofs.ValuedLemmas.{canonical-lower}
 use Rattle.ordered_lists.proofs.RetainLemmas.{HasComeTo, passes, fails, head_is, same_set}
-use Rattle.range_map.specs.Range.{IsRange, in_numbers}
+use Rattle.range_map.specs.Range.{IsRange}
 use Rattle.range_map.specs.Valued.{pair_in_numbers, pairs_in_numbers, AreValuedRanges, IsMap}
 use Rattle.range_map.proofs.DividedLemmas.{valued-push}
 use Rattle.range_map.proofs.GrowthLemmas.{in_numbers-push}

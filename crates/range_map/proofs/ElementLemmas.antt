@@ -1,6 +1,6 @@
 -- The members of a set still to come.
-use Rattle.std.proofs.Common.{◌≡◌, Option, Some, None, List, [], ◌∷◌, length, refl, ap, sym, ◌∙◌, arith}
-use Rattle.std.specs.Prelude.{ℤ, pos, ◌+ℤ◌, ◌<ℤ◌, ◌≤◌, IfSome, IfNone}
+use Rattle.std.proofs.Common.{◌≡◌, Option, Some, None, List, ◌∷◌, length, ap, sym, ◌∙◌, arith}
+use Rattle.std.specs.Prelude.{pos, ◌+ℤ◌, ◌<ℤ◌, ◌≤◌, IfSome, IfNone}
 use Rattle.std.proofs.lemmas.List.{length-map}
 use Rattle.element_core.specs.Numbering.{Numbering}
 use Rattle.number_line.specs.Members.{members}

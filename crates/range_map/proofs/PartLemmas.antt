@@ -1,23 +1,20 @@
 -- The parts of a pair in the ranges of a set: those from the first that doesn't end before it, up to the first that begins behind it.
-use Rattle.std.proofs.Common.{◌≡◌, ℕ, zero, suc, ◌+◌, ◌<◌, ◌≤◌, Bool, true, false, List, [], ◌∷◌, ◌++◌, length, take, drop, ◌-◌, length-drop, refl, ap, sym, ◌∙◌, arith, append_assoc, append-nil}
+use Rattle.std.proofs.Common.{◌≡◌, ℕ, zero, suc, ◌<◌, ◌≤◌, Bool, true, false, List, [], ◌∷◌, ◌++◌, length, take, drop, ◌-◌, length-drop, refl, ap, sym, ◌∙◌, arith, append_assoc, append-nil}
 use Rattle.std.specs.Prelude.{ℤ, pos, ◌+ℤ◌, ◌≤ℤ◌, ◌<ℤ◌, ◌&&◌, int_lt, slice_index_or}
 use Rattle.std.specs.Int.{int_min, int_max}
-use Rattle.std.specs.List.{AllZip}
-use Rattle.std.specs.List.Sorted.{IsPartitionedBy, IsPartitionPoint}
+use Rattle.std.specs.List.Sorted.{IsPartitionedBy}
 use Rattle.std.proofs.lemmas.Int.{ints}
 use Rattle.element_core.specs.Numbering.{Numbering}
 use Rattle.number_line.specs.Ranges.{lies_in, IsCanonical}
 use Rattle.number_line.specs.Kept.{overlaps}
-use Rattle.number_line.specs.Parts.{common, parts, all_with, parts_of_pairs, IsPairClone, ArePairClones}
+use Rattle.number_line.specs.Parts.{common, parts, all_with, parts_of_pairs, IsPairClone}
 use Rattle.number_line.proofs.CloneLemmas.{zipped_append}
 use Rattle.number_line.proofs.PartLemmas.{parts_past, part_before, part_first}
 use Rattle.number_line.proofs.ZippedLemmas.{IsZipped, zipped_start, zipped_step, zipped_end}
 use Rattle.range_map.specs.Range.{in_numbers}
 use Rattle.range_map.specs.Set.{all_in_numbers}
-use Rattle.range_map.specs.Valued.{pair_in_numbers, pairs_in_numbers}
 use Rattle.range_map.specs.Changing.{IsPartsPushed}
 use Rattle.range_map.specs.Merging.{EndFrom}
-use Rattle.range_map.proofs.GrowthLemmas.{in_numbers-push}
 
 -- ---- from the first range that doesn't end before a number
 

@@ -1,4 +1,4 @@
-use Rattle.std.proofs.Common.{◌≡◌, [], ◌∷◌, ◌+◌, drop, arith, ap, ◌∙◌}
+use Rattle.std.proofs.Common.{◌≡◌, [], ◌∷◌, ◌+◌, drop, arith, ap}
 use Rattle.std.proofs.lemmas.Grind.{common_steps}
 use Rattle.number_line.specs.Parts.{parts_of_pairs, IsPairClone}
 use Rattle.number_line.proofs.ZippedLemmas.{zipped_start, zipped_end}

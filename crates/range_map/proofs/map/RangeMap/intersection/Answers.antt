@@ -1,4 +1,3 @@
-use Rattle.std.proofs.Common.{◌≡◌, ◌∙◌}
 use Rattle.number_line.specs.Parts.{parts_of_pairs, ArePairClones}
 use Rattle.number_line.proofs.CloneLemmas.{clones_same, clones_values}
 use Rattle.number_line.proofs.PartLemmas.{parts_canonical, value_of_parts}

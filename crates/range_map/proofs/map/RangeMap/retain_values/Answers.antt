@@ -1,4 +1,3 @@
-use Rattle.std.proofs.Common.{rules}
 use Rattle.range_map.specs.Changing.{CalledAtValue}
 use Rattle.range_map.specs.Valued.{pair_in_numbers}
 use Rattle.range_map.proofs.ChangeLemmas.{filtered_map, filtered_seen}

@@ -1,5 +1,5 @@
 use Rattle.std.proofs.Common.{rules}
-use Rattle.range_map.proofs.ChangeLemmas.{IsJoinTurn, joined_list, joined_ranges}
+use Rattle.range_map.proofs.ChangeLemmas.{joined_list, joined_ranges}
 use Rattle.range_map.proofs.map.changing.join_touching.Goals as goal
 
 pub returns-clause-ranges : goal.returns-clause-ranges

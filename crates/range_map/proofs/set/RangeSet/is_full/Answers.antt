@@ -2,7 +2,7 @@ use Rattle.std.proofs.Common.{◌≡◌, ◌∷◌, ◌∙◌, ap, sym, subst, a
 use Rattle.std.specs.Prelude.{◌≤ℤ◌}
 use Rattle.std.proofs.lemmas.Int.{ints}
 use Rattle.number_line.specs.Ranges.{IsCanonical}
-use Rattle.number_line.proofs.FullLemmas.{empty_has_not_all, not_full, full_by_end}
+use Rattle.number_line.proofs.FullLemmas.{not_full, full_by_end}
 use Rattle.range_map.specs.Set.{all_in_numbers}
 use Rattle.range_map.proofs.set.RangeSet.is_full.Goals as goal
 

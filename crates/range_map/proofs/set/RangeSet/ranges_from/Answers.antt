@@ -1,8 +1,6 @@
 use Rattle.std.proofs.Common.{rules, ◌≡◌, drop, take, length, ◌-◌, ap, ◌∙◌}
 use Rattle.std.specs.List.Sorted.{IsPartitionPoint}
 use Rattle.std.proofs.lemmas.Fn.{always_returns_same}
-use Rattle.number_line.specs.Parts.{parts}
-use Rattle.range_map.specs.Set.{all_in_numbers}
 use Rattle.range_map.proofs.PartLemmas.{ends_before, parted, drop_canonical, later_end_from, same_parts, slice_from}
 use Rattle.range_map.proofs.set.RangeSet.ranges_from.Goals as goal
 

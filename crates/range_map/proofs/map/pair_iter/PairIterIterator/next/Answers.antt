@@ -1,4 +1,4 @@
-use Rattle.std.proofs.Common.{◌≡◌, suc, length, ap, arith, ◌∙◌}
+use Rattle.std.proofs.Common.{length, ap, arith, ◌∙◌}
 use Rattle.std.specs.Prelude.{not}
 use Rattle.number_line.specs.KeysValues.{keys_values}
 use Rattle.range_map.specs.Valued.{pairs_in_numbers}

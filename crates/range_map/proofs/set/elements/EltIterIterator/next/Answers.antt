@@ -1,7 +1,6 @@
-use Rattle.std.proofs.Common.{◌≡◌, suc, length, ap, arith, ◌∙◌}
+use Rattle.std.proofs.Common.{length, ap, arith, ◌∙◌}
 use Rattle.number_line.specs.Members.{members}
 use Rattle.range_map.specs.Set.{all_in_numbers}
-use Rattle.range_map.specs.Elements.{members_left}
 use Rattle.range_map.proofs.ElementLemmas.{without_first}
 use Rattle.range_map.proofs.set.elements.EltIterIterator.next.Goals as goal
 
