@@ -11,7 +11,7 @@ use element_core::{Element, NoMemory};
 use range_map::{MapBuilder, Range, RangeMap};
 use std::alloc::Global;
 
-/// The same ranges with clones of the values, in their order.
+// Returns the same ranges with clones of the values, in their order.
 fn clones_of_pairs<T: Element, V: Eq + Clone + Drop>(
     alloc: Global,
     pairs: &[(Range<T>, V)],
@@ -31,7 +31,7 @@ fn clones_of_pairs<T: Element, V: Eq + Clone + Drop>(
 }
 
 impl<T: Element, V: Eq> RangeMapBlaze<T, V> {
-    /// The map in which every key has `value`. Takes O(1) time.
+    /// Returns the map in which every key has `value`. O(1) time.
     pub fn universe_with(alloc: Global, value: V) -> Result<Self, NoMemory>
     where
         V: Drop,
@@ -42,9 +42,9 @@ impl<T: Element, V: Eq> RangeMapBlaze<T, V> {
         Ok(RangeMapBlaze { map })
     }
 
-    /// The map of what `f` answers, called once for each range, in order, with its value. The keys
-    /// are the same. Of touching ranges with equal answers, which become one, the first answer
-    /// stays. After `NoMemory` the function was not called. Takes O(n) time for n ranges, beside
+    /// Returns the map of what `f` answers, called once for each range, in order, with its value.
+    /// The keys are the same. Of touching ranges with equal answers, which become one, the first
+    /// answer stays. After `NoMemory` the function was not called. O(n) time for n ranges, beside
     /// the calls.
     pub fn transform_values<X: Eq + Drop, F: FnMut(&V) -> X + Drop>(
         &self,
@@ -68,8 +68,8 @@ impl<T: Element, V: Eq> RangeMapBlaze<T, V> {
         })
     }
 
-    /// A map equal to this one, with clones of its values. Takes O(n) time for n ranges, beside the
-    /// clones.
+    /// Returns a map equal to this one, with clones of its values. O(n) time for n ranges, beside
+    /// the clones.
     pub fn try_clone(&self, alloc: Global) -> Result<Self, NoMemory>
     where
         V: Clone + Drop,

@@ -14,7 +14,7 @@ use element_core::{Element, NoMemory, is_below};
 use range_map::{Range, RangeMap};
 use std::alloc::Global;
 
-/// Gives `None` to the keys from `start` to below `range`, if there are any.
+// Gives `None` to the keys from `start` to below `range`, if there are any.
 fn push_gap<T: Element, V: Eq + Clone + Drop>(
     filled: &mut RangeMap<T, Option<V>>,
     start: T,
@@ -44,8 +44,8 @@ fn push_gap<T: Element, V: Eq + Clone + Drop>(
 }
 
 impl<T: Element, V: Eq + Clone + Drop> RangeMapBlaze<T, V> {
-    /// The map in which every key has a value: `Some` of a clone of its value here, or `None` where
-    /// it has none. Takes O(n) time for n ranges, beside the clones: one for each range.
+    /// Returns the map in which every key has a value: `Some` of a clone of its value here, or
+    /// `None` where it has none. O(n) time for n ranges, beside the clones: one for each range.
     pub fn fill_gaps(&self, alloc: Global) -> Result<RangeMapBlaze<T, Option<V>>, NoMemory>
         requires { ClonesAreEqual V.is_clone V.eq }
         ensures canonical { IfOk result

@@ -84,7 +84,7 @@ fn joins_of_filled_maps(rt: HostRuntime) -> Result<(), Fail> {
     Ok(())
 }
 
-/// Three maps that overlap in turn.
+// Three maps that overlap in turn.
 fn three_maps(alloc: Global) -> Result<Vec<RangeMapBlaze<u8, u8>>, NoMemory> {
     let mut maps = Vec::new(alloc);
     maps.push(map_of(alloc, [(0, 9, 1)].as_slice())?)?;
@@ -218,7 +218,7 @@ fn joins_reach_both_ends_of_i64(rt: HostRuntime) -> Result<(), Fail> {
     Ok(())
 }
 
-/// Two calendars: rooms by the hour.
+// Two calendars: rooms by the hour.
 #[test]
 fn bookings_side_by_side(rt: HostRuntime) -> Result<(), Fail> {
     let alloc = rt.alloc();
@@ -268,12 +268,12 @@ impl Eq for Name {
     ghost laws = { on_equiv (λ name. name.letter) nat_eq_equiv };
 }
 
-/// The name that is equal to each other one.
+// The name that is equal to each other one.
 fn on_line(line: u8) -> Name {
     Name { letter: 7, line }
 }
 
-/// The line of the value at the keys 0 to 3, if they are one range.
+// The line of the value at the keys 0 to 3, if they are one range.
 fn line_of_one_range(map: &RangeMapBlaze<u8, Name>) -> Option<u8> {
     let mut ranges = map.range_values();
     match ranges.next() {

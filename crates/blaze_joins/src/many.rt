@@ -29,7 +29,7 @@ pub(crate) struct Side<T: Element> {
 }
 
 impl<T: Element, V: Eq> RangeMapBlaze<T, V> {
-    /// What holds the key `start`, of the pairs from the place `at` on.
+    // Returns what holds the key `start`, of the pairs from the place `at` on.
     fn side_from(&self, at: usize, start: T) -> Side<T>
         requires { IsPlace T.numbers V.eq (T.numbers.number start) self.now at }
         ensures { IsSideOf T.numbers V.eq (T.numbers.number start) self.now result }
@@ -42,7 +42,7 @@ impl<T: Element, V: Eq> RangeMapBlaze<T, V> {
         }
     }
 
-    /// What holds the least key.
+    // Returns what holds the least key.
     fn first_side(&self) -> Side<T>
         ensures { IsSideOf T.numbers V.eq T.numbers.least self.now result }
     {
@@ -54,7 +54,7 @@ impl<T: Element, V: Eq> RangeMapBlaze<T, V> {
         }
     }
 
-    /// What holds the key `next`, which comes behind the key `end`.
+    // Returns what holds the key `next`, which comes behind the key `end`.
     fn side_behind(&self, side: Side<T>, end: T, next: T) -> Side<T>
         requires side { (n : ℤ) × (n ≤ℤ T.numbers.number end) × IsSideOf T.numbers V.eq n self.now
             side }
@@ -66,7 +66,7 @@ impl<T: Element, V: Eq> RangeMapBlaze<T, V> {
         self.side_from(at, next)
     }
 
-    /// A clone of the value at a place, or `None` without one.
+    // Returns a clone of the value at a place, or `None` without one.
     fn clone_at_place(&self, place: Option<usize>) -> Result<Option<V>, NoMemory>
     where
         V: Clone,
@@ -82,7 +82,7 @@ impl<T: Element, V: Eq> RangeMapBlaze<T, V> {
     }
 }
 
-/// What holds the least key in each map.
+// Returns what holds the least key in each map.
 fn first_sides<T: Element, V: Eq>(
     alloc: Global,
     maps: &[RangeMapBlaze<T, V>],
@@ -97,7 +97,7 @@ fn first_sides<T: Element, V: Eq>(
     Ok(sides)
 }
 
-/// What holds the key `next` in each map. It comes behind the key `end`.
+// Returns what holds the key `next` in each map. It comes behind the key `end`.
 fn sides_behind<T: Element, V: Eq>(
     alloc: Global,
     maps: &[RangeMapBlaze<T, V>],
@@ -120,7 +120,7 @@ fn sides_behind<T: Element, V: Eq>(
     Ok(new)
 }
 
-/// The first key at which one of the sides ends, or the greatest key without any.
+// Returns the first key at which one of the sides ends, or the greatest key without any.
 fn first_end<T: Element>(sides: &[Side<T>]) -> T
     ensures is_value { T.numbers.IsValue result }
     ensures least { T.numbers.number result ≡ least_of T.numbers.greatest
@@ -133,7 +133,7 @@ fn first_end<T: Element>(sides: &[Side<T>]) -> T
     end
 }
 
-/// A clone of the value in each map, or `None` where it has none, in the order of the maps.
+// Returns a clone of the value in each map, or `None` where it has none, in the order of the maps.
 fn values_of_each<T: Element, V: Eq + Clone + Drop>(
     alloc: Global,
     maps: &[RangeMapBlaze<T, V>],
@@ -151,7 +151,7 @@ fn values_of_each<T: Element, V: Eq + Clone + Drop>(
     Ok(values)
 }
 
-/// A clone of the value in each map, in the order of the maps. Each of them has one.
+// Returns a clone of the value in each map, in the order of the maps. Each of them has one.
 fn present_values<T: Element, V: Eq + Clone + Drop>(
     alloc: Global,
     maps: &[RangeMapBlaze<T, V>],
@@ -172,25 +172,25 @@ fn present_values<T: Element, V: Eq + Clone + Drop>(
     Ok(values)
 }
 
-/// Whether one of the maps has a value.
+// Returns whether one of the maps has a value.
 fn one_holds<T: Element>(sides: &[Side<T>]) -> bool
     ensures { result ≡ list_any (λ side. is_some side.place) sides.now }
 {
     sides.iter().any(|side| side.place.is_some())
 }
 
-/// Whether each of the maps has a value.
+// Returns whether each of the maps has a value.
 fn each_holds<T: Element>(sides: &[Side<T>]) -> bool
     ensures { result ≡ list_all (λ side. is_some side.place) sides.now }
 {
     sides.iter().all(|side| side.place.is_some())
 }
 
-/// The map of what `f` answers, called once for each piece over the keys in any of the maps, in
-/// order, with a clone of each map's value there, or `None`, in the order of the maps. A piece is a
-/// range of keys on which what holds them, in each map, stays the same. Of touching pieces with
-/// equal answers the first answer stays. Without maps `f` isn't called, and no key has a value.
-/// After `NoMemory` the function was called at the first pieces, or at none. Takes O(k) time a
+/// Returns the map of what `f` answers, called once for each piece over the keys in any of the
+/// maps, in order, with a clone of each map's value there, or `None`, in the order of the maps. A
+/// piece is a range of keys on which what holds them, in each map, stays the same. Of touching
+/// pieces with equal answers the first answer stays. Without maps `f` isn't called, and no key has
+/// a value. After `NoMemory` the function was called at the first pieces, or at none. O(k) time a
 /// piece for k maps, beside the call and the clones, and O(k) memory beside the answer.
 pub fn full_join_all<
     T: Element,
@@ -222,8 +222,8 @@ pub fn full_join_all<
     }
 }
 
-/// The same over the keys in all maps, each of whose values is handed over. Without maps `f` is
-/// called once, with no value, and every key has its answer.
+/// Returns the same over the keys in all maps, each of whose values is handed over. Without maps
+/// `f` is called once, with no value, and every key has its answer.
 pub fn inner_join_all<T: Element, V: Eq + Clone + Drop, X: Eq + Drop, F: FnMut(&[V]) -> X + Drop>(
     alloc: Global,
     maps: &[RangeMapBlaze<T, V>],

@@ -13,7 +13,7 @@ use range_map::{Range, RangeSet};
 use sorted_vector_set::SortedVectorSet;
 use std::alloc::Global;
 
-/// Puts `cut`, which is above all others, behind those kept.
+// Puts `cut`, which is above all others, behind those kept.
 pub(crate) fn push_cut<T: Element>(kept: &mut SortedVectorSet<T>, cut: T) -> Result<(), NoMemory>
     requires values { AllByRecursion T.numbers.IsValue kept.old.items }
     requires ascending { IsAscending T.numbers.least T.numbers.greatest
@@ -29,7 +29,7 @@ pub(crate) fn push_cut<T: Element>(kept: &mut SortedVectorSet<T>, cut: T) -> Res
     }
 }
 
-/// Puts the cuts of `range`, which are above all others, behind those kept.
+// Puts the cuts of `range`, which are above all others, behind those kept.
 fn push_cuts<T: Element>(kept: &mut SortedVectorSet<T>, range: Range<T>) -> Result<(), NoMemory>
     requires values { AllByRecursion T.numbers.IsValue kept.old.items }
     requires ascending { IsAscending T.numbers.least T.numbers.greatest
@@ -49,8 +49,8 @@ fn push_cuts<T: Element>(kept: &mut SortedVectorSet<T>, range: Range<T>) -> Resu
     }
 }
 
-/// The cuts of `set`, ascending: the first value of each range, and the value behind the last one
-/// of each where the type has one. Takes O(n) time for n ranges, and memory for 2n cuts.
+/// Returns the cuts of `set`, ascending: the first value of each range, and the value behind the
+/// last one of each where the type has one. O(n) time for n ranges, and memory for 2n cuts.
 pub fn cuts<T: Element>(alloc: Global, set: &RangeSet<T>) -> Result<SortedVectorSet<T>, NoMemory>
     ensures numbers { IfOk result (λ found. numbers_of T.numbers found.items
         ≡ list_cuts T.numbers.greatest set.now) }
@@ -63,7 +63,7 @@ pub fn cuts<T: Element>(alloc: Global, set: &RangeSet<T>) -> Result<SortedVector
     Ok(kept)
 }
 
-/// Does nothing. Its contract tells of the items of a list that each is a value of its type.
+// Does nothing. Its contract tells of the items of a list that each is a value of its type.
 pub(crate) fn are_values<T: Element>(list: &[T])
     ensures { AllByRecursion T.numbers.IsValue list.now }
 {
@@ -72,7 +72,7 @@ pub(crate) fn are_values<T: Element>(list: &[T])
     }
 }
 
-/// The cuts of `set`, in a vector.
+// Returns the cuts of `set`, in a vector.
 fn listed_cuts<T: Element>(alloc: Global, set: &RangeSet<T>) -> Result<Vec<T>, NoMemory>
     ensures { IfOk result (λ list. numbers_of T.numbers list.items
         ≡ list_cuts T.numbers.greatest set.now) }
@@ -87,7 +87,7 @@ fn listed_cuts<T: Element>(alloc: Global, set: &RangeSet<T>) -> Result<Vec<T>, N
     Ok(list)
 }
 
-/// The cuts of `set`, ascending, each a value of its type.
+// Returns the cuts of `set`, ascending, each a value of its type.
 pub(crate) fn cut_list<T: Element>(alloc: Global, set: &RangeSet<T>) -> Result<Vec<T>, NoMemory>
     ensures numbers { IfOk result (λ list. numbers_of T.numbers list.items
         ≡ list_cuts T.numbers.greatest set.now) }
@@ -100,8 +100,8 @@ pub(crate) fn cut_list<T: Element>(alloc: Global, set: &RangeSet<T>) -> Result<V
     Ok(list)
 }
 
-/// Takes the next cut, which begins a range or ends the one that is begun. Answers the start of a
-/// begun range.
+// Takes the next cut, which begins a range or ends the one that is begun. Answers the start of a
+// begun range.
 fn take_cut<T: Element>(
     ranges: &mut Vec<Range<T>>,
     begun: Option<T>,
@@ -126,7 +126,7 @@ fn take_cut<T: Element>(
     Ok(None)
 }
 
-/// Ends a begun range at the greatest value.
+// Ends a begun range at the greatest value.
 fn end_at_greatest<T: Element>(ranges: &mut Vec<Range<T>>, begun: Option<T>) -> Result<(), NoMemory>
     ensures { OnOk result (all_in_numbers T.numbers ranges.new.items
         ≡ all_in_numbers T.numbers ranges.old.items ++ from_cuts T.numbers.greatest
@@ -140,8 +140,8 @@ fn end_at_greatest<T: Element>(ranges: &mut Vec<Range<T>>, begun: Option<T>) -> 
     Ok(())
 }
 
-/// The one set whose cuts are these values, which ascend, as `from_cuts` makes it of a sorted set.
-/// Takes O(n) time for n cuts, and memory.
+/// Returns the one set whose cuts are these values, which ascend, as `from_cuts` makes it of a
+/// sorted set. O(n) time for n cuts, and memory.
 pub fn from_cut_slice<T: Element>(alloc: Global, list: &[T]) -> Result<RangeSet<T>, NoMemory>
     requires { IsAscending T.numbers.least T.numbers.greatest (numbers_of T.numbers list.now) }
     ensures { IfOk result (λ set.
@@ -157,8 +157,8 @@ pub fn from_cut_slice<T: Element>(alloc: Global, list: &[T]) -> Result<RangeSet<
     Ok(set)
 }
 
-/// The one set whose cuts are these values: each cut begins a range or ends one, in turn, and the
-/// last range goes to the greatest value of the type where no cut ends it. Takes O(n) time for n
+/// Returns the one set whose cuts are these values: each cut begins a range or ends one, in turn,
+/// and the last range goes to the greatest value of the type where no cut ends it. O(n) time for n
 /// cuts, and memory.
 pub fn from_cuts<T: Element>(
     alloc: Global,
@@ -180,9 +180,9 @@ fn is_at_most<T: Element>(cut: T, x: T) -> bool
     !is_below(x, cut)
 }
 
-/// Whether `x` is a member of the set with these cuts: whether the count of cuts at most `x` is
-/// odd. Finds the count by binary search, in O(log n) comparisons for n cuts, after one pass over
-/// the cuts that does nothing with each. Takes no memory.
+/// Returns whether `x` is a member of the set with these cuts: whether the count of cuts at most
+/// `x` is odd. Finds the count by binary search, in O(log n) comparisons for n cuts, after one pass
+/// over the cuts that does nothing with each. Takes no memory.
 pub fn contains_by_cuts<T: Element>(cuts: &SortedVectorSet<T>, x: T) -> bool
     ensures { result ≡ parity (numbers_of T.numbers cuts.now.items) (T.numbers.number x) }
 {

@@ -84,7 +84,8 @@ fn set_of_values<T: Element>(alloc: Global, values: &[T]) -> Result<SortedVector
     Ok(set)
 }
 
-/// The values that are a cut of at least one of the ranges taken alone, ascending, each once.
+/// Returns the values that are a cut of at least one of the ranges taken alone, ascending, each
+/// once.
 ///
 /// A range taken alone has its start as a cut, and the value behind its end where the type has one.
 /// So 1..=5, 4..=8 and 6..=MAX have the cuts 1, 4, 6 and 9, and no range has none. It is the union

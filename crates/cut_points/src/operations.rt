@@ -12,7 +12,7 @@ use range_map::RangeSet;
 use sorted_iter::{AssumeSortedByItemExt, SortedIterator};
 use std::alloc::Global;
 
-/// The cuts that just one of the two lists has, ascending.
+// Returns the cuts that just one of the two lists has, ascending.
 fn in_just_one<T: Element>(alloc: Global, left: &[T], right: &[T]) -> Result<Vec<T>, NoMemory>
     requires left { IsStrictlySortedBy T.cmp left.now }
     requires right { IsStrictlySortedBy T.cmp right.now }
@@ -27,8 +27,8 @@ fn in_just_one<T: Element>(alloc: Global, left: &[T], right: &[T]) -> Result<Vec
     Ok(both)
 }
 
-/// The set of the values that are members of just one of the two sets. Its cuts are those that just
-/// one of them has. Takes O(n + m) time for n and m ranges, and memory.
+/// Returns the set of the values that are members of just one of the two sets. Its cuts are those
+/// that just one of them has. O(n + m) time for n and m ranges, and memory.
 pub fn symmetric_difference<T: Element>(
     alloc: Global,
     left: &RangeSet<T>,
@@ -47,8 +47,8 @@ pub fn symmetric_difference<T: Element>(
     Ok(set)
 }
 
-/// The set of the members of `left` that aren't members of `right`. Takes O(n + m) time for n and m
-/// ranges, and memory: it negates `right` and intersects.
+/// Returns the set of the members of `left` that aren't members of `right`. O(n + m) time for n and
+/// m ranges, and memory: it negates `right` and intersects.
 pub fn difference<T: Element>(
     alloc: Global,
     left: &RangeSet<T>,

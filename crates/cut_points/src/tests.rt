@@ -97,7 +97,7 @@ fn empty_and_full_sets(rt: HostRuntime) -> Result<(), Fail> {
     Ok(())
 }
 
-/// Membership of the set of the least and the greatest value alone.
+// Membership of the set of the least and the greatest value alone.
 fn ends_alone<T: Element>(rt: &impl Abort, alloc: Global) -> Result<(), NoMemory> {
     let least = T::min_value();
     let greatest = T::max_value();

@@ -14,16 +14,16 @@ use std::cmp::Ordering;
 /// `PrimInt` or `Integer`, and is implemented for the twelve integer types, whose number is the
 /// value itself.
 ///
-/// Each call takes O(1) time and no memory.
+/// Each call O(1) time, no memory.
 pub trait Element: Copy + Ord {
     ghost numbers: { Numbering Self };
 
-    /// The value of the least number.
+    /// Returns the value of the least number.
     fn min_value() -> Self
         ensures is_value { numbers.IsValue result }
         ensures number { numbers.number result ≡ numbers.least };
 
-    /// The value of the greatest number.
+    /// Returns the value of the greatest number.
     fn max_value() -> Self
         ensures is_value { numbers.IsValue result }
         ensures number { numbers.number result ≡ numbers.greatest };
@@ -35,19 +35,20 @@ pub trait Element: Copy + Ord {
         ensures low { numbers.least ≤ℤ numbers.number self }
         ensures high { numbers.number self ≤ℤ numbers.greatest };
 
-    /// The value of the next number, or `None` at the greatest.
+    /// Returns the value of the next number, or `None` at the greatest.
     fn successor(self) -> Option<Self>
         ensures next { IfSome result (λ y. numbers.IsValue y
             × (numbers.number y ≡ numbers.number self +ℤ pos 1)) }
         ensures at_end { IsNone result ↔ (numbers.number self ≡ numbers.greatest) };
 
-    /// The value of the number before, or `None` at the least.
+    /// Returns the value of the number before, or `None` at the least.
     fn predecessor(self) -> Option<Self>
         ensures before { IfSome result (λ y. numbers.IsValue y
             × (numbers.number y +ℤ pos 1 ≡ numbers.number self)) }
         ensures at_end { IsNone result ↔ (numbers.number self ≡ numbers.least) };
 
-    /// The number of steps from this value up to `end`, or `usize::MAX` where there are more.
+    /// Returns the number of steps from this value up to `end`, or `usize::MAX` where there are
+    /// more.
     fn steps_to(self, end: Self) -> usize
         requires { numbers.number self ≤ℤ numbers.number end }
         ensures { result ≡ min (unsigned_abs (numbers.number end -ℤ numbers.number self))
@@ -56,8 +57,8 @@ pub trait Element: Copy + Ord {
     ghost numbered: { IsNumbering Self.cmp numbers };
 }
 
-/// How the numbers of two values compare. Generic code asks this in place of `a.cmp(&b)`, whose
-/// contract speaks of no numbers.
+/// Returns how the numbers of two values compare. Generic code asks this in place of `a.cmp(&b)`,
+/// whose contract speaks of no numbers.
 pub fn compare<T: Element>(a: T, b: T) -> Ordering
     ensures { result ≡ int_cmp (T.numbers.number a) (T.numbers.number b) }
 {
@@ -66,7 +67,8 @@ pub fn compare<T: Element>(a: T, b: T) -> Ordering
     a.cmp(&b)
 }
 
-/// Whether the number of `a` is below that of `b`. Generic code asks this in place of `a < b`.
+/// Returns whether the number of `a` is below that of `b`. Generic code asks this in place of `a <
+/// b`.
 pub fn is_below<T: Element>(a: T, b: T) -> bool
     ensures { MatchBool result (T.numbers.number a <ℤ T.numbers.number b)
         (T.numbers.number b ≤ℤ T.numbers.number a) }
@@ -76,7 +78,8 @@ pub fn is_below<T: Element>(a: T, b: T) -> bool
     matches!(a.cmp(&b), Ordering::Less)
 }
 
-/// Whether the number of `a` is at most that of `b`. Generic code asks this in place of `a <= b`.
+/// Returns whether the number of `a` is at most that of `b`. Generic code asks this in place of `a
+/// <= b`.
 pub fn is_at_most<T: Element>(a: T, b: T) -> bool
     ensures { MatchBool result (T.numbers.number a ≤ℤ T.numbers.number b)
         (T.numbers.number b <ℤ T.numbers.number a) }

@@ -4,8 +4,8 @@ use std::cmp::Ordering;
 use std::process::Abort;
 use std::test::Fail;
 
-/// The calls at the two ends of a type that has at least two values and `steps` steps between its
-/// ends.
+// The calls at the two ends of a type that has at least two values and `steps` steps between its
+// ends.
 fn stops_at_both_ends<T: Element>(rt: &impl Abort, steps: usize) {
     let least = T::min_value();
     let greatest = T::max_value();
@@ -53,12 +53,12 @@ fn want_of_memory_is_written(rt: HostRuntime) -> Result<(), Fail> {
     Ok(())
 }
 
-/// Refuses the number, as a call that takes it over would.
+// Refuses the number, as a call that takes it over would.
 fn refuse(number: u8) -> Result<(), Refused<u8>> {
     Err(Refused { given: number })
 }
 
-/// Asks for memory through a call that hands its argument back.
+// Asks for memory through a call that hands its argument back.
 fn ask(number: u8) -> Result<(), NoMemory> {
     refuse(number)?;
     Ok(())

@@ -8,7 +8,7 @@ use crate::{Range, RangeSet};
 use element_core::{Element, NoMemory, is_at_most};
 use std::alloc::Global;
 
-/// The range between two values, or `None` where they aren't in order.
+// Returns the range between two values, or `None` where they aren't in order.
 pub(crate) fn between<T: Element>(a: T, b: T) -> Option<Range<T>>
     ensures range { IfSome result (λ range. range ≡ (a, b)) }
     ensures turned { IfNone result (T.numbers.number b <ℤ T.numbers.number a) }
@@ -20,7 +20,7 @@ pub(crate) fn between<T: Element>(a: T, b: T) -> Option<Range<T>>
     }
 }
 
-/// At `i64` the numbers of a set are the values themselves.
+// At `i64` the numbers of a set are the values themselves.
 pub(crate) fn two_runs(alloc: Global) -> Result<RangeSet<i64>, NoMemory>
     ensures { IfOk result
         (λ set. (x : ℤ) → holds set x ≡ (lies_in (pos 1, pos 5) x || lies_in (pos 8, pos 9) x)) }

@@ -6,7 +6,7 @@ use element_core::NoMemory;
 use std::alloc::{AllocError, Global};
 use std::test::Fail;
 
-/// The map of these starts, ends and values; want of memory stands for pairs that overlap.
+// The map of these starts, ends and values; want of memory stands for pairs that overlap.
 fn map_of(alloc: Global, rows: &[(u8, u8, u8)]) -> Result<RangeMap<u8, u8>, NoMemory> {
     let mut pairs = Vec::new(alloc);
     for (start, end, value) in rows {
@@ -28,7 +28,7 @@ fn rows_of(alloc: Global, map: &RangeMap<u8, u8>) -> Result<Vec<(u8, u8, u8)>, N
     Ok(rows)
 }
 
-/// The set of the values from `start` to `end` and from `next` on.
+// The set of the values from `start` to `end` and from `next` on.
 fn set_of(alloc: Global, start: u8, end: u8, next: u8) -> Result<RangeSet<u8>, NoMemory> {
     let mut ranges = Vec::new(alloc);
     if start <= end {
@@ -175,7 +175,7 @@ impl Eq for Name {
     ghost laws = { on_equiv (λ name. name.letter) nat_eq_equiv };
 }
 
-/// The map in which 0 to 1 and 2 to 3 have names of other letters, written on the lines 1 and 2.
+// The map in which 0 to 1 and 2 to 3 have names of other letters, written on the lines 1 and 2.
 fn names(alloc: Global) -> Result<RangeMap<u8, Name>, NoMemory> {
     let mut pairs = Vec::new(alloc);
     pairs.push((Range::new(2, 3), Name { letter: 8, line: 2 }))?;

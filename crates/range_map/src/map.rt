@@ -47,7 +47,7 @@ impl<T: Element, V: Eq> Model for RangeMap<T, V> {
 }
 
 impl<T: Element, V: Eq> RangeMap<T, V> {
-    /// The empty map. Takes O(1) time and no memory.
+    /// Returns the empty map. O(1) time, no memory.
     pub fn new(alloc: Global) -> Self
         ensures { result ≡ [] }
     {
@@ -56,7 +56,7 @@ impl<T: Element, V: Eq> RangeMap<T, V> {
         }
     }
 
-    /// The map of ranges that are those of one already. Takes O(1) time and no memory.
+    /// The map of ranges that are those of one already. O(1) time, no memory.
     // For the copy of a map, whose values come one by one.
     #[doc(hidden)]
     pub fn from_canonical(pairs: Vec<(Range<T>, V)>) -> Self
@@ -66,7 +66,7 @@ impl<T: Element, V: Eq> RangeMap<T, V> {
         RangeMap { pairs }
     }
 
-    /// The empty map, with room for so many ranges. Takes O(1) time.
+    /// The empty map, with room for so many ranges. O(1) time.
     // For the crates that make maps: a caller would use `try_from_iter`.
     #[doc(hidden)]
     pub fn with_capacity(alloc: Global, ranges: usize) -> Result<Self, NoMemory>
@@ -76,7 +76,7 @@ impl<T: Element, V: Eq> RangeMap<T, V> {
         Ok(RangeMap { pairs })
     }
 
-    /// The ranges with their values, ascending. Takes O(1) time and no memory.
+    /// The ranges with their values, ascending. O(1) time, no memory.
     // For the joins, which walk over maps by the places of their ranges.
     #[doc(hidden)]
     pub fn as_slice(&self) -> &[(Range<T>, V)]
@@ -86,21 +86,21 @@ impl<T: Element, V: Eq> RangeMap<T, V> {
         self.pairs.as_slice()
     }
 
-    /// Whether no key has a value. Takes O(1) time and no memory.
+    /// Returns whether no key has a value. O(1) time, no memory.
     pub fn is_empty(&self) -> bool
         ensures { IsTrue result ↔ (self.now ≡ []) }
     {
         self.pairs.is_empty()
     }
 
-    /// The number of ranges. Takes O(1) time and no memory.
+    /// Returns the number of ranges. O(1) time, no memory.
     pub fn num_ranges(&self) -> usize
         ensures { result ≡ length self.now }
     {
         self.pairs.len()
     }
 
-    /// The ranges with their values, ascending, from both ends. Takes O(1) time and no memory.
+    /// Returns the ranges with their values, ascending, from both ends. O(1) time, no memory.
     pub fn ranges_values(&self) -> Iter<'_, (Range<T>, V)>
         ensures list { pairs_in_numbers T.numbers (iter_rest result) ≡ self.now }
         ensures canonical { IsCanonicalMap V.eq T.numbers.least T.numbers.greatest self.now }
@@ -109,7 +109,7 @@ impl<T: Element, V: Eq> RangeMap<T, V> {
         self.pairs.iter()
     }
 
-    /// The value at the key `x`, or `None` where it has none. Takes O(log n) time for n ranges, and
+    /// Returns the value at the key `x`, or `None` where it has none. O(log n) time for n ranges,
     /// no memory.
     pub fn get(&self, x: T) -> Option<&V>
         ensures { option_copied result ≡ value_at self.now (T.numbers.number x) }
@@ -121,7 +121,7 @@ impl<T: Element, V: Eq> RangeMap<T, V> {
         }
     }
 
-    /// The ranges with their values, ascending. Takes O(1) time and no memory.
+    /// Returns the ranges with their values, ascending. O(1) time, no memory.
     pub fn into_vec(self) -> Vec<(Range<T>, V)>
         ensures list { pairs_in_numbers T.numbers result.items ≡ self }
         ensures canonical { IsCanonicalMap V.eq T.numbers.least T.numbers.greatest self }

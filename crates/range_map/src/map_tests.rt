@@ -5,7 +5,7 @@ use std::alloc::Global;
 use std::hash::{DefaultHasher, Hash, Hasher};
 use std::test::Fail;
 
-/// Pairs of these starts, ends and values; those whose start is above their end are left out.
+// Pairs of these starts, ends and values; those whose start is above their end are left out.
 fn pairs_of(alloc: Global, rows: &[(i64, i64, u8)]) -> Result<Vec<(Range<i64>, u8)>, NoMemory> {
     let mut pairs = Vec::new(alloc);
     for (start, end, value) in rows {
@@ -24,7 +24,7 @@ fn rows_of(alloc: Global, pairs: &[(Range<i64>, u8)]) -> Result<Vec<(i64, i64, u
     Ok(rows)
 }
 
-/// The map of pairs that don't overlap with different values; no memory stands for those that do.
+// The map of pairs that don't overlap with different values; no memory stands for those that do.
 fn map_of(alloc: Global, rows: &[(i64, i64, u8)]) -> Result<RangeMap<i64, u8>, NoMemory> {
     match RangeMap::try_from_iter(alloc, pairs_of(alloc, rows)?) {
         Ok(map) => Ok(map),
@@ -32,7 +32,7 @@ fn map_of(alloc: Global, rows: &[(i64, i64, u8)]) -> Result<RangeMap<i64, u8>, N
     }
 }
 
-/// What is answered of pairs of which some overlap with different values, or `None` where none do.
+// What is answered of pairs of which some overlap with different values, or `None` where none do.
 fn overlap_of(
     alloc: Global,
     rows: &[(i64, i64, u8)],

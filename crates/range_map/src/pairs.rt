@@ -16,7 +16,7 @@ use crate::set::RangeSet;
 use element_core::{Element, NoMemory};
 use std::alloc::Global;
 
-/// Writes what `f` answers at the value of the pair in the value's place.
+// Writes what `f` answers at the value of the pair in the value's place.
 fn answer<T: Element, V: Drop, F: FnMut(&V) -> V>(f: &mut F, pair: &mut (Range<T>, V))
     requires { F.IsAlwaysCallable f.old }
     ensures callable { F.IsAlwaysCallable f.new }
@@ -42,7 +42,7 @@ pub fn answer_each<T: Element, V: Drop, F: FnMut(&V) -> V>(f: &mut F, pairs: &mu
     }
 }
 
-/// What `f` answers at the value of the pair.
+// Returns what `f` answers at the value of the pair.
 fn passes<T: Element, V, F: FnMut(&V) -> bool>(f: &mut F, pair: &(Range<T>, V)) -> bool
     requires { F.IsAlwaysCallable f.old }
     ensures callable { F.IsAlwaysCallable f.new }
@@ -51,8 +51,8 @@ fn passes<T: Element, V, F: FnMut(&V) -> bool>(f: &mut F, pair: &(Range<T>, V)) 
     f(&pair.1)
 }
 
-/// Moves the pairs at whose values `f` answers true to the front, in their order, and answers how
-/// many they are.
+// Moves the pairs at whose values `f` answers true to the front, in their order, and answers how
+// many they are.
 fn bring_forward<T: Element, V, F: FnMut(&V) -> bool>(
     f: &mut F,
     pairs: &mut [(Range<T>, V)],
@@ -84,8 +84,8 @@ pub fn retain_by_value<T: Element, V: Drop, F: FnMut(&V) -> bool>(
     pairs.truncate(kept);
 }
 
-/// Puts the parts of the pair in the ranges behind the others, each with a clone of its value. The
-/// ranges are canonical, and none ends before the pair begins.
+// Puts the parts of the pair in the ranges behind the others, each with a clone of its value. The
+// ranges are canonical, and none ends before the pair begins.
 fn push_parts<T: Element, V: Clone + Drop>(
     made: &mut Vec<(Range<T>, V)>,
     pair: &(Range<T>, V),
@@ -112,8 +112,8 @@ fn push_parts<T: Element, V: Clone + Drop>(
     Ok(())
 }
 
-/// The parts of each pair in the ranges of the set, in their order, each with a clone of the pair's
-/// value.
+/// Returns the parts of each pair in the ranges of the set, in their order, each with a clone of
+/// the pair's value.
 pub fn parts_in_set<T: Element, V: Clone + Drop>(
     alloc: Global,
     pairs: &[(Range<T>, V)],

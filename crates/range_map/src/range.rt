@@ -13,8 +13,8 @@ use std::marker::Model;
 
 /// The values from a start to an end, both included. The start is never greater than the end.
 ///
-/// Ranges are ordered by their starts, and those with equal starts by their ends. Every call takes
-/// O(1) time and no memory.
+/// Ranges are ordered by their starts, and those with equal starts by their ends. Every call O(1)
+/// time, no memory.
 #[derive(Copy, PartialEq, Eq, PartialOrd, Ord, Hash, Debug)]
 pub struct Range<T: Element> {
     start: T,
@@ -40,8 +40,8 @@ impl<T: Element> Clone for Range<T> {
 }
 
 impl<T: Element> Range<T> {
-    /// The range from `start` to `end`. Generic code tells that they are in order by `is_at_most`
-    /// of `element_core`.
+    /// Returns the range from `start` to `end`. Generic code tells that they are in order by
+    /// `is_at_most` of `element_core`.
     pub fn new(start: T, end: T) -> Self
         requires { T.numbers.number start ≤ℤ T.numbers.number end }
         ensures value { result ≡ (start, end) }
@@ -52,7 +52,7 @@ impl<T: Element> Range<T> {
         Range { start, end }
     }
 
-    /// The range of all values of the type.
+    /// Returns the range of all values of the type.
     pub fn full() -> Self
         ensures start { T.numbers.number result.0 ≡ T.numbers.least }
         ensures end { T.numbers.number result.1 ≡ T.numbers.greatest }
@@ -61,7 +61,7 @@ impl<T: Element> Range<T> {
         Range::new(T::min_value(), T::max_value())
     }
 
-    /// The range of `x` alone.
+    /// Returns the range of `x` alone.
     pub fn single(x: T) -> Self
         ensures value { result ≡ (x, x) }
         ensures range { IsRange T.numbers result }
@@ -69,7 +69,7 @@ impl<T: Element> Range<T> {
         Range::new(x, x)
     }
 
-    /// The first value.
+    /// Returns the first value.
     pub fn start(&self) -> T
         ensures value { result ≡ self.now.0 }
         ensures range { IsRange T.numbers self.now }
@@ -79,7 +79,7 @@ impl<T: Element> Range<T> {
         self.start
     }
 
-    /// The last value.
+    /// Returns the last value.
     pub fn end(&self) -> T
         ensures value { result ≡ self.now.1 }
         ensures range { IsRange T.numbers self.now }
@@ -89,14 +89,14 @@ impl<T: Element> Range<T> {
         self.end
     }
 
-    /// Whether `x` lies between the two ends, both included.
+    /// Returns whether `x` lies between the two ends, both included.
     pub fn contains(&self, x: T) -> bool
         ensures { result ≡ lies_in (in_numbers T.numbers self.now) (T.numbers.number x) }
     {
         !is_below(x, self.start) && !is_below(self.end, x)
     }
 
-    /// Whether some value lies in both ranges.
+    /// Returns whether some value lies in both ranges.
     pub fn intersects(&self, other: &Self) -> bool
         ensures shared { OnTrue result ((x : ℤ) × ((lies_in (in_numbers T.numbers self.now) x
             && lies_in (in_numbers T.numbers other.now) x) ≡ true)) }
@@ -108,7 +108,7 @@ impl<T: Element> Range<T> {
         !is_below(other.end, self.start) && !is_below(self.end, other.start)
     }
 
-    /// Whether `next` begins with the value behind this range.
+    // Returns whether `next` begins with the value behind this range.
     pub(crate) fn touches(&self, next: &Self) -> bool
         ensures { result ≡ touches (in_numbers T.numbers self.now) (in_numbers T.numbers next.now) }
     {
@@ -120,7 +120,7 @@ impl<T: Element> Range<T> {
         }
     }
 
-    /// The range of the values that lie in both, or `None` where no value does.
+    /// Returns the range of the values that lie in both, or `None` where no value does.
     pub fn intersection(&self, other: &Self) -> Option<Self>
         ensures start { IfSome result (λ both. T.numbers.number both.0
             ≡ int_max (T.numbers.number self.now.0) (T.numbers.number other.now.0)) }
@@ -147,7 +147,7 @@ impl<T: Element> Range<T> {
         }
     }
 
-    /// The smallest range that covers both.
+    /// Returns the smallest range that covers both.
     pub fn cover(&self, other: &Self) -> Self
         ensures start { T.numbers.number result.0
             ≡ int_min (T.numbers.number self.now.0) (T.numbers.number other.now.0) }

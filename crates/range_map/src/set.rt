@@ -48,7 +48,7 @@ impl<T: Element> Model for RangeSet<T> {
 }
 
 impl<T: Element> RangeSet<T> {
-    /// The empty set. Takes O(1) time and no memory.
+    /// Returns the empty set. O(1) time, no memory.
     pub fn new(alloc: Global) -> Self
         ensures { result ≡ [] }
     {
@@ -57,7 +57,7 @@ impl<T: Element> RangeSet<T> {
         }
     }
 
-    /// The set of all values of the type. Takes O(1) time.
+    /// Returns the set of all values of the type. O(1) time.
     pub fn full(alloc: Global) -> Result<Self, NoMemory>
         ensures canonical { IfOk result (IsCanonical T.numbers.least T.numbers.greatest) }
         ensures list { IfOk result (λ set. set ≡ (T.numbers.least, T.numbers.greatest) ∷ []) }
@@ -65,7 +65,7 @@ impl<T: Element> RangeSet<T> {
         RangeSet::from_range(alloc, Range::full())
     }
 
-    /// The set of `x` alone. Takes O(1) time.
+    /// Returns the set of `x` alone. O(1) time.
     pub fn single(alloc: Global, x: T) -> Result<Self, NoMemory>
         ensures canonical { IfOk result (IsCanonical T.numbers.least T.numbers.greatest) }
         ensures list { IfOk result (λ set. set ≡ (T.numbers.number x, T.numbers.number x) ∷ []) }
@@ -73,7 +73,7 @@ impl<T: Element> RangeSet<T> {
         RangeSet::from_range(alloc, Range::single(x))
     }
 
-    /// The set of the values in `range`. Takes O(1) time.
+    /// Returns the set of the values in `range`. O(1) time.
     pub fn from_range(alloc: Global, range: Range<T>) -> Result<Self, NoMemory>
         ensures canonical { IfOk result (IsCanonical T.numbers.least T.numbers.greatest) }
         ensures list { IfOk result (λ set. set ≡ in_numbers T.numbers range ∷ []) }
@@ -86,21 +86,21 @@ impl<T: Element> RangeSet<T> {
         Ok(RangeSet { ranges })
     }
 
-    /// Whether no value is a member. Takes O(1) time and no memory.
+    /// Returns whether no value is a member. O(1) time, no memory.
     pub fn is_empty(&self) -> bool
         ensures { IsTrue result ↔ (self.now ≡ []) }
     {
         self.ranges.is_empty()
     }
 
-    /// The number of ranges. Takes O(1) time and no memory.
+    /// Returns the number of ranges. O(1) time, no memory.
     pub fn num_ranges(&self) -> usize
         ensures { result ≡ length self.now }
     {
         self.ranges.len()
     }
 
-    /// The ranges, ascending. Takes O(1) time and no memory.
+    /// Returns the ranges, ascending. O(1) time, no memory.
     pub fn ranges(&self) -> RangeIter<'_, T>
         ensures list { result ≡ self.now }
         ensures canonical { IsCanonical T.numbers.least T.numbers.greatest self.now }
@@ -110,7 +110,7 @@ impl<T: Element> RangeSet<T> {
         }
     }
 
-    /// Whether `value` is a member. Takes O(log n) time for n ranges, and no memory.
+    /// Returns whether `value` is a member. O(log n) time for n ranges, no memory.
     pub fn contains(&self, value: T) -> bool
         ensures { result ≡ holds self.now (T.numbers.number value) }
     {
@@ -119,8 +119,7 @@ impl<T: Element> RangeSet<T> {
             .is_ok()
     }
 
-    /// The ranges that end at `start` or behind it. Takes O(log n) time for n ranges, and no
-    /// memory.
+    // Returns the ranges that end at `start` or behind it. O(log n) time for n ranges, no memory.
     pub(crate) fn ranges_from(&self, start: T) -> &[Range<T>]
         ensures canonical { IsCanonical T.numbers.least T.numbers.greatest
             (all_in_numbers T.numbers result.now) }
@@ -134,7 +133,7 @@ impl<T: Element> RangeSet<T> {
         &self.ranges[place..]
     }
 
-    /// The set of the values that are members of either set. Takes O(n + m) time for n and m
+    /// Returns the set of the values that are members of either set. O(n + m) time for n and m
     /// ranges.
     pub fn union(&self, alloc: Global, other: &Self) -> Result<Self, NoMemory>
         ensures canonical { IfOk result (IsCanonical T.numbers.least T.numbers.greatest) }
@@ -152,7 +151,8 @@ impl<T: Element> RangeSet<T> {
         Ok(set)
     }
 
-    /// The set of the values that are members of both sets. Takes O(n + m) time for n and m ranges.
+    /// Returns the set of the values that are members of both sets. O(n + m) time for n and m
+    /// ranges.
     pub fn intersection(&self, alloc: Global, other: &Self) -> Result<Self, NoMemory>
         ensures canonical { IfOk result (IsCanonical T.numbers.least T.numbers.greatest) }
         ensures members { IfOk result
@@ -175,7 +175,7 @@ impl<T: Element> RangeSet<T> {
         Ok(set)
     }
 
-    /// The set of the values that aren't members, the two ends of the type included. Takes O(n)
+    /// Returns the set of the values that aren't members, the two ends of the type included. O(n)
     /// time for n ranges.
     pub fn negated(&self, alloc: Global) -> Result<Self, NoMemory>
         ensures canonical { IfOk result (IsCanonical T.numbers.least T.numbers.greatest) }
@@ -197,7 +197,7 @@ impl<T: Element> RangeSet<T> {
         Ok(set)
     }
 
-    /// A set equal to this one. Takes O(n) time for n ranges.
+    /// Returns a set equal to this one. O(n) time for n ranges.
     pub fn try_clone(&self, alloc: Global) -> Result<Self, NoMemory>
         ensures canonical { IfOk result (IsCanonical T.numbers.least T.numbers.greatest) }
         ensures list { IfOk result (λ set. set ≡ self.now) }

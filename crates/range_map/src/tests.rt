@@ -9,8 +9,8 @@ use std::hash::{DefaultHasher, Hash, Hasher};
 use std::process::Abort;
 use std::test::Fail;
 
-/// The set of the numbers in any of the ranges; ranges whose start is greater than their end are
-/// left out.
+// The set of the numbers in any of the ranges; ranges whose start is greater than their end are
+// left out.
 fn set_of(alloc: Global, ranges: &[(i64, i64)]) -> Result<RangeSet<i64>, NoMemory> {
     let mut set = RangeSet::new(alloc);
     for (start, end) in ranges {
@@ -47,7 +47,7 @@ fn empty_and_full<T: Element>(rt: &impl Abort, alloc: Global) -> Result<(), NoMe
     Ok(())
 }
 
-/// `others` holds all values but `one`, which is the least or the greatest.
+// `others` holds all values but `one`, which is the least or the greatest.
 fn all_but_one<T: Element>(
     rt: &impl Abort,
     alloc: Global,

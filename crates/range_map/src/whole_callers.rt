@@ -12,14 +12,14 @@ use crate::{RangeMap, RangeSet};
 use element_core::NoMemory;
 use std::alloc::Global;
 
-/// Whether an access list lets an address in, which is in no range that is shut.
+// Returns whether an access list lets an address in, which is in no range that is shut.
 pub(crate) fn lets_in(shut: &RangeSet<u32>, address: u32) -> bool
     ensures { result ≡ not (holds shut.now (pos address)) }
 {
     !shut.contains(address)
 }
 
-/// The days that no booking holds.
+// Returns the days that no booking holds.
 pub(crate) fn free_days(
     alloc: Global,
     bookings: &RangeMap<u16, u32>,
@@ -32,8 +32,8 @@ pub(crate) fn free_days(
     Ok(free)
 }
 
-/// The addresses that are shut where just the given ones are let in, or `None` where some of these
-/// is less than the one before it.
+// Returns the addresses that are shut where just the given ones are let in, or `None` where some
+// of these is less than the one before it.
 pub(crate) fn shut_but(alloc: Global, allowed: Vec<u32>) -> Result<Option<RangeSet<u32>>, NoMemory>
     ensures { IfOk result (IsExcept (pos 0) (pos 4294967295) (map pos allowed.items)) }
 {
@@ -41,15 +41,15 @@ pub(crate) fn shut_but(alloc: Global, allowed: Vec<u32>) -> Result<Option<RangeS
     Ok(shut)
 }
 
-/// Takes the bookings of a customer out of the table.
+// Takes the bookings of a customer out of the table.
 pub(crate) fn cancel(bookings: &mut RangeMap<u16, u32>, customer: u32)
     ensures { bookings.new ≡ filter (λ booking. not (booking.1 == customer)) bookings.old }
 {
     bookings.retain_values(|booking| *booking != customer);
 }
 
-/// Hands the bookings of a customer over to another one. Each day that was booked stays booked, and
-/// no other is.
+// Hands the bookings of a customer over to another one. Each day that was booked stays booked, and
+// no other is.
 pub(crate) fn hand_over(bookings: &mut RangeMap<u16, u32>, customer: u32, other: u32)
     ensures { (day : ℤ) → is_some (value_at bookings.new day)
         ≡ is_some (value_at bookings.old day) }
@@ -61,7 +61,7 @@ pub(crate) fn hand_over(bookings: &mut RangeMap<u16, u32>, customer: u32, other:
     });
 }
 
-/// The bookings of the days of a season.
+// Returns the bookings of the days of a season.
 pub(crate) fn in_season(
     alloc: Global,
     bookings: &RangeMap<u16, u32>,
@@ -75,7 +75,7 @@ pub(crate) fn in_season(
     Ok(some)
 }
 
-/// The days that are booked, each with its customer.
+// Returns the days that are booked, each with its customer.
 pub(crate) fn day_by_day(
     alloc: Global,
     bookings: &RangeMap<u16, u32>,

@@ -34,7 +34,7 @@ fn fullness<T: Element>(rt: &impl Abort, alloc: Global) -> Result<(), NoMemory> 
     Ok(())
 }
 
-/// The set of all values but one, which is that of `except` and of `negated`.
+// The set of all values but one, which is that of `except` and of `negated`.
 fn all_but<T: Element>(alloc: Global, x: T) -> Result<RangeSet<T>, NoMemory> {
     let set = RangeSet::single(alloc, x)?.negated(alloc)?;
     match RangeSet::except(alloc, [x, x].as_slice().iter().copied())? {
@@ -136,7 +136,7 @@ fn keys_and_copies_of_a_map(rt: HostRuntime) -> Result<(), Fail> {
     Ok(())
 }
 
-/// The bookings of the days 3 to 5 and 6 to 9.
+// The bookings of the days 3 to 5 and 6 to 9.
 fn bookings(alloc: Global) -> Result<RangeMap<u16, u32>, NoMemory> {
     let mut pairs = Vec::new(alloc);
     pairs.push((Range::new(3, 5), 41))?;

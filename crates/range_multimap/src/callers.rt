@@ -5,7 +5,7 @@ use crate::RangeMultiMap;
 use element_core::NoMemory;
 use range_map::Range;
 
-/// At `i32` the numbers of a range are its two values.
+// At `i32` the numbers of a range are its two values.
 pub(crate) fn push_pair(
     pairs: &mut RangeMultiMap<i32, u8>,
     range: Range<i32>,
@@ -19,7 +19,7 @@ pub(crate) fn push_pair(
     }
 }
 
-/// Takes the pairs with a value out.
+// Takes the pairs with a value out.
 pub(crate) fn drop_value(pairs: &mut RangeMultiMap<i32, u8>, value: u8)
     ensures { pairs.new ≡ filter (λ pair. not (pair.1 == value)) pairs.old }
 {

@@ -15,7 +15,7 @@ use std::alloc::Global;
 
 impl<T: Element, V: Eq> RangeMultiMap<T, V> {
     /// Calls `f` once for each pair, in order, with its value, and writes the answer in the value's
-    /// place. Takes O(n) time for n pairs, beside the calls, and no memory.
+    /// place. O(n) time for n pairs, beside the calls, no memory.
     pub fn map_values<F: FnMut(&V) -> V>(&mut self, mut f: F)
     where
         V: Drop,
@@ -26,7 +26,7 @@ impl<T: Element, V: Eq> RangeMultiMap<T, V> {
     }
 
     /// Calls `f` once for each pair, in order, with its value, and keeps the pairs at which it
-    /// answers true. Takes O(n) time for n pairs, beside the calls, and no memory.
+    /// answers true. O(n) time for n pairs, beside the calls, no memory.
     pub fn retain_values<F: FnMut(&V) -> bool>(&mut self, f: F)
     where
         V: Drop,
@@ -36,9 +36,9 @@ impl<T: Element, V: Eq> RangeMultiMap<T, V> {
         retain_by_value(&mut self.pairs, f);
     }
 
-    /// The parts of each pair in the set, pair by pair in their order and each pair's parts
-    /// ascending, with clones of the pair's value. Takes O(n log m) time for n pairs and m ranges
-    /// of the set, beside the clones, one for each pair of the answer.
+    /// Returns the parts of each pair in the set, pair by pair in their order and each pair's parts
+    /// ascending, with clones of the pair's value. O(n log m) time for n pairs and m ranges of the
+    /// set, beside the clones, one for each pair of the answer.
     pub fn intersection(&self, alloc: Global, set: &RangeSet<T>) -> Result<Self, NoMemory>
     where
         V: Clone + Drop,

@@ -26,7 +26,7 @@ impl<V: Eq> Model for Group<V> {
     ghost view = { λ group. group.values.items };
 }
 
-/// Clones of the values, in their order.
+// Clones of the values, in their order.
 fn clones_of<V: Eq + Clone + Drop>(alloc: Global, values: &[V]) -> Result<Vec<V>, NoMemory>
     requires { ClonesAreEqual V.is_clone V.eq }
     ensures { IfOk result (λ copy. pointwise V.eq copy.items values.now ≡ true) }
@@ -39,21 +39,21 @@ fn clones_of<V: Eq + Clone + Drop>(alloc: Global, values: &[V]) -> Result<Vec<V>
 }
 
 impl<V: Eq> Group<V> {
-    /// The values. Takes O(1) time and no memory.
+    /// Returns the values. O(1) time, no memory.
     pub fn as_slice(&self) -> &[V]
         ensures { result.now ≡ self.now }
     {
         self.values.as_slice()
     }
 
-    /// The values. Takes O(1) time and no memory.
+    /// Returns the values. O(1) time, no memory.
     pub fn into_vec(self) -> Vec<V>
         ensures { result.items ≡ self }
     {
         self.values
     }
 
-    /// A group equal to this one. Takes O(n) time for n values, beside their clones.
+    /// Returns a group equal to this one. O(n) time for n values, beside their clones.
     pub fn try_clone(&self, alloc: Global) -> Result<Self, NoMemory>
     where
         V: Clone + Drop,

@@ -16,7 +16,7 @@ fn hash_of<T: Hash>(value: &T) -> u64 {
     state.finish()
 }
 
-/// The ends of each range of a map.
+// The ends of each range of a map.
 fn ends_of(alloc: Global, map: &RangeMap<i32, Group<u8>>) -> Result<Vec<(i32, i32)>, NoMemory> {
     let mut ends = Vec::new(alloc);
     for pair in map.ranges_values() {
@@ -25,7 +25,7 @@ fn ends_of(alloc: Global, map: &RangeMap<i32, Group<u8>>) -> Result<Vec<(i32, i3
     Ok(ends)
 }
 
-/// The values at a key, or none.
+// The values at a key, or none.
 fn values_at(map: &RangeMap<i32, Group<u8>>, key: i32) -> &[u8] {
     match map.get(key) {
         Some(group) => group.as_slice(),

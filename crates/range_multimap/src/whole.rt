@@ -12,7 +12,7 @@ use std::alloc::Global;
 use std::slice::Iter;
 
 impl<T: Element, V: Eq> RangeMultiMap<T, V> {
-    /// The pairs that `iter` gives, in their order. Takes O(n) time for n pairs.
+    /// Returns the pairs that `iter` gives, in their order. O(n) time for n pairs.
     pub fn try_from_iter<I: IntoIterator<Item = (Range<T>, V)>>(
         alloc: Global,
         iter: I,
@@ -29,7 +29,7 @@ impl<T: Element, V: Eq> RangeMultiMap<T, V> {
         Ok(RangeMultiMap::from_vec(pairs))
     }
 
-    /// The pairs in their order. Takes O(1) time and no memory.
+    /// Returns the pairs in their order. O(1) time, no memory.
     pub fn into_vec(self) -> Vec<(Range<T>, V)>
         ensures { pairs_in_numbers T.numbers result.items ≡ self }
     {
@@ -52,28 +52,28 @@ impl<'a, T: Element, V: Eq> IntoIterator for &'a RangeMultiMap<T, V> {
 }
 
 impl<V: Eq> Group<V> {
-    /// The group of these values. Takes O(1) time and no memory.
+    /// Returns the group of these values. O(1) time, no memory.
     pub fn from_vec(values: Vec<V>) -> Self
         ensures { result ≡ values.items }
     {
         Group { values }
     }
 
-    /// The number of values. Takes O(1) time and no memory.
+    /// Returns the number of values. O(1) time, no memory.
     pub fn len(&self) -> usize
         ensures { result ≡ length self.now }
     {
         self.values.len()
     }
 
-    /// Whether there is no value. Takes O(1) time and no memory.
+    /// Returns whether there is no value. O(1) time, no memory.
     pub fn is_empty(&self) -> bool
         ensures { IsTrue result ↔ (self.now ≡ []) }
     {
         self.values.is_empty()
     }
 
-    /// The values in their order, from both ends. Takes O(1) time and no memory.
+    /// Returns the values in their order, from both ends. O(1) time, no memory.
     pub fn iter(&self) -> Iter<'_, V>
         ensures list { iter_rest result ≡ self.now }
         ensures bound { length (iter_rest result) < 2 ^ 64 }

@@ -11,14 +11,14 @@ use element_core::NoMemory;
 use range_map::Range;
 use std::alloc::Global;
 
-/// Whether a packet from that address may pass: only where a rule allows it.
+// Returns whether a packet from that address may pass: only where a rule allows it.
 pub(crate) fn may_pass(table: &RuleTable, source: u32) -> bool
     ensures { IsTrue result ↔ (decision_at table.now (pos source) ≡ Some Decision.Allow) }
 {
     matches!(table.decide(source), Some(Decision::Allow))
 }
 
-/// The table of the rules and a ban, which denies all of its addresses, whatever they say.
+// Returns the table of the rules and a ban, which denies all of its addresses, whatever they say.
 pub(crate) fn with_ban(
     alloc: Global,
     rules: &[Rule],

@@ -9,8 +9,8 @@ use crate::reading::read_rules;
 use std::alloc::Global;
 
 /// Returns the answer to a text of rules: the segments of the decision, the blocks of those that
-/// are allowed, and the dead rules. A text with a fault is refused with its first one. Takes
-/// O(n log n) time for n bytes of text, beside the time to write the answer.
+/// are allowed, and the dead rules. A text with a fault is refused with its first one. O(n log n)
+/// time for n bytes of text, beside the time to write the answer.
 pub fn rules_document(alloc: Global, text: &[u8]) -> Result<Vec<u8>, RuleError>
     ensures fault_free { OnOk result (first_fault text.now ≡ None) }
     ensures answer { IfOk result (λ out. out.items ≡ rules_answer text.now) }

@@ -97,7 +97,7 @@ fn dead_of(
 }
 
 impl RuleTable {
-    /// Returns the table of the rules, in their order. Takes O(n log n) time for n rules.
+    /// Returns the table of the rules, in their order. O(n log n) time for n rules.
     pub fn build(alloc: Global, rules: &[Rule]) -> Result<RuleTable, NoMemory>
         ensures { IfOk result (λ table. table ≡ rules_in_numbers rules.now) }
     {
@@ -111,16 +111,16 @@ impl RuleTable {
         })
     }
 
-    /// Returns the greatest place of a rule that holds `x`, or `None` where no rule does. Takes
-    /// O(log n) time for n rules, and no memory.
+    /// Returns the greatest place of a rule that holds `x`, or `None` where no rule does. O(log n)
+    /// time for n rules, no memory.
     pub fn winner(&self, x: u32) -> Option<usize>
         ensures { result ≡ winner self.now (pos x) }
     {
         self.winners.get(x).copied()
     }
 
-    /// Returns the winner's decision, or `None` where there is no winner. Takes O(log n) time for n
-    /// rules, and no memory.
+    /// Returns the winner's decision, or `None` where there is no winner. O(log n) time for n
+    /// rules, no memory.
     pub fn decide(&self, x: u32) -> Option<Decision>
         ensures { result ≡ decision_at self.now (pos x) }
     {
@@ -139,7 +139,7 @@ impl RuleTable {
     }
 
     /// Returns whether the rule at that place is the winner of no address, or `None` where there is
-    /// no such rule. Takes O(1) time and no memory.
+    /// no such rule. O(1) time, no memory.
     pub fn is_dead(&self, index: usize) -> Option<bool>
         ensures none { IsNone result ↔ (length self.now ≤ index) }
         ensures some { IfSome result (λ dead.

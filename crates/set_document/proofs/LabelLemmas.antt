@@ -90,11 +90,11 @@ begin-more names k bytes starts h i p =
 pub label_more : (names rest : List (List ℕ)) (name : List ℕ) (k : ℕ) (bytes starts : List ℕ) → AreLabelsTo names k bytes starts → drop k names ≡ name ∷ rest
     → AreLabelsTo names (suc k) (bytes ++ label name) (starts ++ length bytes ∷ [])
 label_more names rest name k bytes starts h e = record {
-    within = let l : length (drop k names) ≡ suc (length rest) = ap length e in let m : length (drop k names) ≡ length names - k = grind (arith, common_steps) in omega arith;
-    one_piece = ap (λ l. l ++ label name) h.one_piece ∙ sym (ap (flat_map label) (one-more names rest name k e) ∙ (flat_map-append label (take k names) (name ∷ []) ∙ ap (λ l. flat_map label (take k names) ++ l) (append-nil (label name))));
-    begin = begin-more names k bytes starts h;
-    each = let l = h.each in grind (arith, common_steps);
-  }
+  within = let l : length (drop k names) ≡ suc (length rest) = ap length e in let m : length (drop k names) ≡ length names - k = grind (arith, common_steps) in omega arith;
+  one_piece = ap (λ l. l ++ label name) h.one_piece ∙ sym (ap (flat_map label) (one-more names rest name k e) ∙ (flat_map-append label (take k names) (name ∷ []) ∙ ap (λ l. flat_map label (take k names) ++ l) (append-nil (label name))));
+  begin = begin-more names k bytes starts h;
+  each = let l = h.each in grind (arith, common_steps);
+}
 
 pub labels_all : (names : List (List ℕ)) (k : ℕ) (bytes starts : List ℕ) → AreLabelsTo names k bytes starts → drop k names ≡ []
     → AreLabels names bytes (starts ++ length bytes ∷ [])

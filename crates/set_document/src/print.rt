@@ -135,11 +135,7 @@ fn row_len(labels: &Labels, row: &TableRow) -> usize {
 
 // Room for the bytes of lines and rows. It spares that the bytes are moved as they grow, and no
 // more.
-pub(crate) fn room_for(
-    lines: &[Line<'_>],
-    labels: &Labels,
-    rows: &[TableRow],
-) -> usize {
+pub(crate) fn room_for(lines: &[Line<'_>], labels: &Labels, rows: &[TableRow]) -> usize {
     let mut total: usize = 0;
     for line in lines {
         total = total.saturating_add(line_len(line));

@@ -53,7 +53,7 @@ impl<I: Iterator> Ahead<I>
 where
     I::Item: Drop,
 {
-    /// A source that was not asked yet. O(1), and takes no memory.
+    /// Returns a source that was not asked yet. O(1) time, no memory.
     pub fn new(source: I) -> Self
         ensures { result ≡ ahead_of source }
     {
@@ -63,7 +63,8 @@ where
         }
     }
 
-    /// The item that is held, or else the next one of the source. It takes no memory of its own.
+    /// Returns the item that is held, or else the next one of the source. It takes no memory of its
+    /// own.
     #[inline(always)]
     pub fn take(&mut self) -> Option<I::Item>
         requires { ahead_can I.can_next self.old }
@@ -85,7 +86,8 @@ where
         }
     }
 
-    /// A hint of how many items `take` gives before its first `None`, from that of the source.
+    /// Returns a hint of how many items `take` gives before its first `None`, from that of the
+    /// source.
     pub fn size_hint(&self) -> Hint
         ensures { (h : ℕ × Option ℕ) × IsHint (I.remaining self.now.source) h
             × (result ≡ ahead_hint self.now.head h) }
@@ -98,7 +100,7 @@ where
         }
     }
 
-    /// Holds an item, which the next `take` gives, in place of one that is held. O(1), and takes no
+    /// Holds an item, which the next `take` gives, in place of one that is held. O(1) time, no
     /// memory.
     #[inline(always)]
     pub fn put_back(&mut self, item: I::Item)
@@ -112,7 +114,7 @@ impl<I: Iterator + Clone> Ahead<I>
 where
     I::Item: Clone,
 {
-    /// A clone of the source, with a clone of the item that is held in front of it.
+    /// Returns a clone of the source, with a clone of the item that is held in front of it.
     pub fn try_clone(&self) -> Result<Self, AllocError>
         ensures { IfOk result (λ copy. IsAheadClone I.is_clone I.Item.is_clone self.now copy) }
     {

@@ -16,7 +16,7 @@ use std::alloc::{AllocError, Global};
 use std::collections::{BTreeMap, BTreeSet};
 use std::iter::once;
 
-/// The first item, and then the union of the rest with another stream.
+// Returns the first item, and then the union of the rest with another stream.
 pub(crate) fn union_after_first<I: SortedIterator, J: SortedIterator<Item = I::Item>>(
     mut left: I,
     right: J,
@@ -35,7 +35,7 @@ where
     Some((first, left.union(right)))
 }
 
-/// The items of two sets that are given up.
+// Returns the items of two sets that are given up.
 pub(crate) fn items_of_either<K: Ord + Drop>(
     alloc: Global,
     a: BTreeSet<K>,
@@ -46,7 +46,7 @@ pub(crate) fn items_of_either<K: Ord + Drop>(
     a.into_iter().union(b.into_iter()).collect(alloc)
 }
 
-/// The keys that two maps have in common, as a stream.
+// Returns the keys that two maps have in common, as a stream.
 pub(crate) fn shared_keys<K: Ord + Copy, V, W>(
     alloc: Global,
     a: &BTreeMap<K, V>,
@@ -55,19 +55,19 @@ pub(crate) fn shared_keys<K: Ord + Copy, V, W>(
     a.keys().intersection(b.keys()).copied().collect(alloc)
 }
 
-/// An array that is written out, and a range.
+// Returns an array that is written out, and a range.
 pub(crate) fn written_out(alloc: Global) -> Result<Vec<u32>, AllocError> {
     let listed = [1u32, 2, 5].iter().copied().assume_sorted_by_item();
     listed.union(2..4).collect(alloc)
 }
 
-/// A stream without its first item and without those that are odd, and one more item.
+// Returns a stream without its first item and without those that are odd, and one more item.
 pub(crate) fn even_with_one_more(alloc: Global) -> Result<Vec<u32>, AllocError> {
     let even = (0..9u32).skip(1).filter(|x| *x % 2 == 0);
     even.union(once(5)).collect(alloc)
 }
 
-/// The first items of a stream: `take` and then `fuse`.
+// Returns the first items of a stream: `take` and then `fuse`.
 pub(crate) fn first_of_union(alloc: Global, n: usize) -> Result<Vec<u32>, AllocError> {
     let first = (0..9u32).take(n).fuse();
     first
@@ -75,7 +75,7 @@ pub(crate) fn first_of_union(alloc: Global, n: usize) -> Result<Vec<u32>, AllocE
         .collect(alloc)
 }
 
-/// Whether one stream is within another.
+// Returns whether one stream is within another.
 pub(crate) fn is_part_of<I: SortedIterator, J: SortedIterator<Item = I::Item>>(a: I, b: J) -> bool
 where
     I::Item: Ord + Drop,
@@ -90,7 +90,7 @@ where
     a.is_subset(b)
 }
 
-/// The union, and what is left of it after its first item, each by a copy of the stream.
+// Returns the union, and what is left of it after its first item, each by a copy of the stream.
 pub(crate) fn copies_of_union(
     alloc: Global,
     a: &[u32],
@@ -107,7 +107,8 @@ pub(crate) fn copies_of_union(
     Ok((fresh.collect(alloc)?, rest.collect(alloc)?))
 }
 
-/// The intersection, and what is left of it after its first item, each by a copy of the stream.
+// Returns the intersection, and what is left of it after its first item, each by a copy of the
+// stream.
 pub(crate) fn copies_of_intersection(
     alloc: Global,
     a: &[u32],
@@ -124,7 +125,8 @@ pub(crate) fn copies_of_intersection(
     Ok((fresh.collect(alloc)?, rest.collect(alloc)?))
 }
 
-/// The difference, and what is left of it after its first item, each by a copy of the stream.
+// Returns the difference, and what is left of it after its first item, each by a copy of the
+// stream.
 pub(crate) fn copies_of_difference(
     alloc: Global,
     a: &[u32],
@@ -141,8 +143,8 @@ pub(crate) fn copies_of_difference(
     Ok((fresh.collect(alloc)?, rest.collect(alloc)?))
 }
 
-/// The symmetric difference, and what is left of it after its first item, each by a copy of the
-/// stream.
+// Returns the symmetric difference, and what is left of it after its first item, each by a copy of
+// the stream.
 pub(crate) fn copies_of_symmetric_difference(
     alloc: Global,
     a: &[u32],
@@ -159,8 +161,8 @@ pub(crate) fn copies_of_symmetric_difference(
     Ok((fresh.collect(alloc)?, rest.collect(alloc)?))
 }
 
-/// The pairs of a stream, and what is left of them after the first one, each by a copy of the
-/// stream.
+// Returns the pairs of a stream, and what is left of them after the first one, each by a copy of
+// the stream.
 pub(crate) fn copies_of_pairs(
     alloc: Global,
     a: &[u32],
@@ -174,7 +176,7 @@ pub(crate) fn copies_of_pairs(
     Ok((fresh.collect(alloc)?, rest.collect(alloc)?))
 }
 
-/// A stream by assumption and its copy.
+// Returns a stream by assumption and its copy.
 pub(crate) fn copy_of_assumed(alloc: Global, a: &[u32]) -> Result<Vec<u32>, NoMemory>
     requires { IsStrictlySortedBy nat_cmp a.now }
 {
@@ -183,7 +185,7 @@ pub(crate) fn copy_of_assumed(alloc: Global, a: &[u32]) -> Result<Vec<u32>, NoMe
     Ok(stream.try_clone()?.collect(alloc)?)
 }
 
-/// Whether an item comes.
+// Returns whether an item comes.
 pub(crate) fn has_item<I: OneOrLess>(mut it: I) -> bool
 where
     I::Item: Drop,

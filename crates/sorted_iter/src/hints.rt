@@ -35,14 +35,14 @@ fn less_by(low: usize, high: Option<usize>) -> usize
     }
 }
 
-/// The hint of the items of either side.
+/// Returns the hint of the items of either side.
 pub fn of_union(a: Hint, b: Hint) -> Hint
     ensures { result ≡ union_hint a b }
 {
     (a.0.max(b.0), sum_of(a.1, b.1))
 }
 
-/// The hint of the items that both sides have.
+/// Returns the hint of the items that both sides have.
 pub fn of_intersection(a: Hint, b: Hint) -> Hint
     ensures { result ≡ intersection_hint a b }
 {

@@ -38,8 +38,8 @@ impl<I: Iterator> Iterator for Pairs<I> {
 }
 
 impl<I: Iterator> Pairs<I> {
-    /// A second stream from which the same is still to come. O(1), beside the clone of the source;
-    /// refused where that is.
+    /// Returns a second stream from which the same is still to come. O(1), beside the clone of the
+    /// source; refused where that is.
     pub fn try_clone(&self) -> Result<Self, NoMemory>
     where
         I: Clone,

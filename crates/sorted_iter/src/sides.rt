@@ -40,7 +40,7 @@ where
     I::Item: Drop,
     J::Item: Drop,
 {
-    /// Two sources that were not asked yet. O(1), and takes no memory.
+    /// Returns two sources that were not asked yet. O(1) time, no memory.
     pub fn new(left: I, right: J) -> Self
         ensures { result ≡ sides_of left right }
     {
@@ -55,8 +55,8 @@ impl<I: Iterator, J: Iterator<Item = I::Item>> Sides<I, J>
 where
     I::Item: Ord + Drop,
 {
-    /// The next item of the walk that is wanted. It asks each source at most once for each item
-    /// that it passes over, and takes no memory of its own.
+    /// Returns the next item of the walk that is wanted. It asks each source at most once for each
+    /// item that it passes over, and takes no memory of its own.
     #[inline(always)]
     pub fn next(&mut self, wants: Wants) -> Option<I::Item>
         requires { sides_can I.can_next I.remaining J.can_next J.remaining self.old }

@@ -89,9 +89,9 @@ impl<I: Iterator, J: Iterator<Item = I::Item>> Union<I, J>
 where
     I::Item: Ord + Drop,
 {
-    /// A second stream that goes on alike: what is still to come from it is equal to what is still
-    /// to come from this one. O(1), beside the clones of both sources and of the items that were
-    /// read ahead. It is refused where one of these clones is.
+    /// Returns a second stream that goes on alike: what is still to come from it is equal to what
+    /// is still to come from this one. O(1), beside the clones of both sources and of the items
+    /// that were read ahead. It is refused where one of these clones is.
     pub fn try_clone(&self) -> Result<Self, NoMemory>
     where
         I: Clone,
@@ -182,9 +182,9 @@ impl<I: Iterator, J: Iterator<Item = I::Item>> Intersection<I, J>
 where
     I::Item: Ord + Drop,
 {
-    /// A second stream that goes on alike: what is still to come from it is equal to what is still
-    /// to come from this one. O(1), beside the clones of both sources and of the items that were
-    /// read ahead. It is refused where one of these clones is.
+    /// Returns a second stream that goes on alike: what is still to come from it is equal to what
+    /// is still to come from this one. O(1), beside the clones of both sources and of the items
+    /// that were read ahead. It is refused where one of these clones is.
     pub fn try_clone(&self) -> Result<Self, NoMemory>
     where
         I: Clone,
@@ -271,9 +271,9 @@ impl<I: Iterator, J: Iterator<Item = I::Item>> Difference<I, J>
 where
     I::Item: Ord + Drop,
 {
-    /// A second stream that goes on alike: what is still to come from it is equal to what is still
-    /// to come from this one. O(1), beside the clones of both sources and of the items that were
-    /// read ahead. It is refused where one of these clones is.
+    /// Returns a second stream that goes on alike: what is still to come from it is equal to what
+    /// is still to come from this one. O(1), beside the clones of both sources and of the items
+    /// that were read ahead. It is refused where one of these clones is.
     pub fn try_clone(&self) -> Result<Self, NoMemory>
     where
         I: Clone,
@@ -365,9 +365,9 @@ impl<I: Iterator, J: Iterator<Item = I::Item>> SymmetricDifference<I, J>
 where
     I::Item: Ord + Drop,
 {
-    /// A second stream that goes on alike: what is still to come from it is equal to what is still
-    /// to come from this one. O(1), beside the clones of both sources and of the items that were
-    /// read ahead. It is refused where one of these clones is.
+    /// Returns a second stream that goes on alike: what is still to come from it is equal to what
+    /// is still to come from this one. O(1), beside the clones of both sources and of the items
+    /// that were read ahead. It is refused where one of these clones is.
     pub fn try_clone(&self) -> Result<Self, NoMemory>
     where
         I: Clone,

@@ -41,7 +41,7 @@ fn difference_of<T: Ord + Copy>(alloc: Global, a: &[T], b: &[T]) -> Result<Vec<T
     left.difference(right).collect(alloc)
 }
 
-/// A loop in place of `collect`.
+// A loop in place of `collect`.
 fn symmetric_difference_of<T: Ord + Copy>(
     alloc: Global,
     a: &[T],
@@ -60,7 +60,7 @@ fn symmetric_difference_of<T: Ord + Copy>(
     Ok(all)
 }
 
-/// A union of a union, over vectors that are given up.
+// A union of a union, over vectors that are given up.
 fn union_of_three<T: Ord + Drop>(
     alloc: Global,
     a: Vec<T>,
@@ -161,7 +161,7 @@ fn labels(alloc: Global, tags: &[Tag]) -> Result<Vec<char>, AllocError> {
     tags.iter().map(|t| t.label).collect(alloc)
 }
 
-/// The labels of the union, of the intersection and of the symmetric difference.
+// The labels of the union, of the intersection and of the symmetric difference.
 fn labels_of(
     alloc: Global,
     a: &[Tag],
@@ -230,7 +230,7 @@ fn ranges_with_a_vector(rt: HostRuntime) -> Result<(), Fail> {
     Ok(())
 }
 
-/// A range and a slice.
+// A range and a slice.
 fn with_range(alloc: Global, a: &[u32]) -> Result<Vec<u32>, AllocError>
     requires { IsStrictlySortedBy nat_cmp a.now }
 {
@@ -238,7 +238,7 @@ fn with_range(alloc: Global, a: &[u32]) -> Result<Vec<u32>, AllocError>
     (2..5u32).symmetric_difference(given).collect(alloc)
 }
 
-/// The keys of two sets: a loop over references.
+// The keys of two sets: a loop over references.
 fn keys_of_union<K: Ord + Copy>(
     alloc: Global,
     a: &BTreeSet<K>,
@@ -253,7 +253,7 @@ fn keys_of_union<K: Ord + Copy>(
     Ok(all)
 }
 
-/// The keys of two sets and the items of a slice.
+// The keys of two sets and the items of a slice.
 fn sets_and_slice(
     alloc: Global,
     a: &BTreeSet<u32>,

@@ -66,8 +66,8 @@ impl<K: Ord, V, I: Iterator<Item = (K, V)>> SortedByKey<K, V> for AssumeSortedBy
 }
 
 impl<I: Iterator> AssumeSortedByKey<I> {
-    /// A second stream from which the same is still to come. O(1), beside the clone of the source;
-    /// refused where that is.
+    /// Returns a second stream from which the same is still to come. O(1), beside the clone of the
+    /// source; refused where that is.
     pub fn try_clone(&self) -> Result<Self, NoMemory>
     where
         I: Clone,
@@ -82,8 +82,8 @@ impl<I: Iterator> AssumeSortedByKey<I> {
 
 /// Gives any iterator of pairs the mark [`SortedByKey`].
 pub trait AssumeSortedByKeyExt<K: Ord, V>: Iterator<Item = (K, V)> + Sized {
-    /// The same iterator with the mark. Its keys still to come have to strictly ascend, and it has
-    /// to stay ended. O(1), and takes no memory.
+    /// Returns the same iterator with the mark. Its keys still to come have to strictly ascend, and
+    /// it has to stay ended. O(1) time, no memory.
     final fn assume_sorted_by_key(self) -> AssumeSortedByKey<Self>
     where
         requires { InOrder (by_key K.cmp) Self.next_gives self }

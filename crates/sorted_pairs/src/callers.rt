@@ -13,7 +13,7 @@ use crate::{AssumeSortedByKeyExt, Join, SortedPairIterator};
 use element_core::NoMemory;
 use std::alloc::{AllocError, Global};
 
-/// The first pair, and then the join of the rest with another stream.
+// Returns the first pair, and then the join of the rest with another stream.
 pub(crate) fn join_after_first<
     K: Ord + Drop,
     V: Drop,
@@ -33,7 +33,7 @@ where
     Some((first, left.join(right)))
 }
 
-/// The pairs of two slices that have one key.
+// Returns the pairs of two slices that have one key.
 pub(crate) fn join_of<K: Ord + Copy, V: Copy, W: Copy>(
     alloc: Global,
     a: &[(K, V)],
@@ -48,7 +48,7 @@ pub(crate) fn join_of<K: Ord + Copy, V: Copy, W: Copy>(
     left.join(right).collect(alloc)
 }
 
-/// Each pair of the first slice, with the second one's value.
+// Returns each pair of the first slice, with the second one's value.
 pub(crate) fn left_join_of<K: Ord + Copy, V: Copy, W: Copy>(
     alloc: Global,
     a: &[(K, V)],
@@ -63,7 +63,7 @@ pub(crate) fn left_join_of<K: Ord + Copy, V: Copy, W: Copy>(
     left.left_join(right).collect(alloc)
 }
 
-/// Each pair of the second slice, with the first one's value.
+// Returns each pair of the second slice, with the first one's value.
 pub(crate) fn right_join_of<K: Ord + Copy, V: Copy, W: Copy>(
     alloc: Global,
     a: &[(K, V)],
@@ -78,7 +78,7 @@ pub(crate) fn right_join_of<K: Ord + Copy, V: Copy, W: Copy>(
     left.right_join(right).collect(alloc)
 }
 
-/// Each key of either slice, with both values.
+// Returns each key of either slice, with both values.
 pub(crate) fn outer_join_of<K: Ord + Copy, V: Copy, W: Copy>(
     alloc: Global,
     a: &[(K, V)],
@@ -93,7 +93,7 @@ pub(crate) fn outer_join_of<K: Ord + Copy, V: Copy, W: Copy>(
     left.outer_join(right).collect(alloc)
 }
 
-/// The keys of a slice of pairs.
+// Returns the keys of a slice of pairs.
 pub(crate) fn keys_of<K: Ord + Copy, V: Copy>(
     alloc: Global,
     a: &[(K, V)],
@@ -108,7 +108,7 @@ pub(crate) fn keys_of<K: Ord + Copy, V: Copy>(
         .collect(alloc)
 }
 
-/// The join, and what is left of it after its first item, each by a copy of the stream.
+// Returns the join, and what is left of it after its first item, each by a copy of the stream.
 pub(crate) fn copies_of_join(
     alloc: Global,
     a: &[(u32, char)],
@@ -125,7 +125,8 @@ pub(crate) fn copies_of_join(
     Ok((fresh.collect(alloc)?, rest.collect(alloc)?))
 }
 
-/// The left join, and what is left of it after its first item, each by a copy of the stream.
+// Returns the left join, and what is left of it after its first item, each by a copy of the
+// stream.
 pub(crate) fn copies_of_left_join(
     alloc: Global,
     a: &[(u32, char)],
@@ -148,7 +149,8 @@ pub(crate) fn copies_of_left_join(
     Ok((fresh.collect(alloc)?, rest.collect(alloc)?))
 }
 
-/// The right join, and what is left of it after its first item, each by a copy of the stream.
+// Returns the right join, and what is left of it after its first item, each by a copy of the
+// stream.
 pub(crate) fn copies_of_right_join(
     alloc: Global,
     a: &[(u32, char)],
@@ -171,7 +173,8 @@ pub(crate) fn copies_of_right_join(
     Ok((fresh.collect(alloc)?, rest.collect(alloc)?))
 }
 
-/// The outer join, and what is left of it after its first item, each by a copy of the stream.
+// Returns the outer join, and what is left of it after its first item, each by a copy of the
+// stream.
 pub(crate) fn copies_of_outer_join(
     alloc: Global,
     a: &[(u32, char)],
@@ -194,7 +197,7 @@ pub(crate) fn copies_of_outer_join(
     Ok((fresh.collect(alloc)?, rest.collect(alloc)?))
 }
 
-/// The keys, and what is left of them after the first one, each by a copy of the stream.
+// Returns the keys, and what is left of them after the first one, each by a copy of the stream.
 pub(crate) fn copies_of_keys(
     alloc: Global,
     a: &[(u32, char)],
@@ -208,7 +211,7 @@ pub(crate) fn copies_of_keys(
     Ok((fresh.collect(alloc)?, rest.collect(alloc)?))
 }
 
-/// What is left of a stream by assumption after its first item, by a copy.
+// Returns what is left of a stream by assumption after its first item, by a copy.
 pub(crate) fn copy_of_assumed(
     alloc: Global,
     a: &[(u32, char)],

@@ -67,8 +67,8 @@ impl<K: Ord, V: Drop, I: Iterator<Item = (K, V)> + SortedByKey<K, V>> SortedByIt
 }
 
 impl<K, V: Drop, I: Iterator<Item = (K, V)>> Keys<I> {
-    /// A second stream from which the same is still to come. O(1), beside the clone of the source;
-    /// refused where that is.
+    /// Returns a second stream from which the same is still to come. O(1), beside the clone of the
+    /// source; refused where that is.
     pub fn try_clone(&self) -> Result<Self, NoMemory>
     where
         I: Clone,

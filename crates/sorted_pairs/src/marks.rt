@@ -129,8 +129,8 @@ pub trait SortedPairIterator<K: Ord, V>: SortedByKey<K, V> + Sized {
         }
     }
 
-    /// Each key with what `f` answers on its value. `f` is called once on the value of each pair
-    /// that is taken, in the order in which they are taken, from whichever end.
+    /// Returns each key with what `f` answers on its value. `f` is called once on the value of each
+    /// pair that is taken, in the order in which they are taken, from whichever end.
     final fn map_values<W, F: FnMut(V) -> W>(self, f: F) -> MapValues<Self, F>
     where
         ensures source { map_values_source result ≡ self }
@@ -140,8 +140,9 @@ pub trait SortedPairIterator<K: Ord, V>: SortedByKey<K, V> + Sized {
         MapValues { source: self, f }
     }
 
-    /// Each key on whose value `f` answers `Some(w)`, with w. `f` is called once on the value of
-    /// each pair that is taken, in order; those on which it answers `None` are passed over.
+    /// Returns each key on whose value `f` answers `Some(w)`, with w. `f` is called once on the
+    /// value of each pair that is taken, in order; those on which it answers `None` are passed
+    /// over.
     final fn filter_map_values<W, F: FnMut(V) -> Option<W>>(self, f: F) -> FilterMapValues<Self, F>
     where
         ensures source { filter_map_values_source result ≡ self }
@@ -151,7 +152,7 @@ pub trait SortedPairIterator<K: Ord, V>: SortedByKey<K, V> + Sized {
         FilterMapValues { source: self, f }
     }
 
-    /// The keys, ascending.
+    /// Returns the keys, ascending.
     final fn keys(self) -> Keys<Self>
         ensures source { keys_source result ≡ self }
         ensures runs { EachRunFrom (keys_steps Self.next_gives) result

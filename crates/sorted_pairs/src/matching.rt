@@ -19,8 +19,8 @@ pub enum EitherOrBoth<A, B> {
     Right(B),
 }
 
-/// What is at the next key that is wanted. It asks each source at most once for each item that it
-/// passes over, and takes no memory of its own.
+// Returns what is at the next key that is wanted. It asks each source at most once for each item
+// that it passes over, and takes no memory of its own.
 #[inline(always)]
 pub(crate) fn next_match<
     K: Ord + Drop,

@@ -100,10 +100,10 @@ impl<
     I: Iterator<Item = (K, V)>,
     J: Iterator<Item = (K, W)>,
 > RightJoin<I, J> {
-    /// A second stream that goes on alike: its keys are equal to those that are to come from this
-    /// one, and its values are the same, or clones where they were read ahead. O(1), beside the
-    /// clones of both streams and of the pairs that were read ahead. It is refused where one of
-    /// these clones is.
+    /// Returns a second stream that goes on alike: its keys are equal to those that are to come
+    /// from this one, and its values are the same, or clones where they were read ahead. O(1),
+    /// beside the clones of both streams and of the pairs that were read ahead. It is refused where
+    /// one of these clones is.
     pub fn try_clone(&self) -> Result<Self, NoMemory>
     where
         I: Clone,

@@ -122,8 +122,8 @@ struct Tag {
     label: char,
 }
 
-/// The labels of the keys of the join, of the left join, of the right join and of the outer join of
-/// two pairs.
+// The labels of the keys of the join, of the left join, of the right join and of the outer join of
+// two pairs.
 fn labels(a: Tag, b: Tag) -> [Option<char>; 4] {
     let joined = once((a, 1u8)).join(once((b, 2u8))).next();
     let left = once((a, 1u8)).left_join(once((b, 2u8))).next();
@@ -255,7 +255,7 @@ fn keys_and_pairs_by_assumption_from_both_ends(rt: HostRuntime) -> Result<(), Fa
     Ok(())
 }
 
-/// The join of what is left of each of three adapters with the squares of its keys.
+// The join of what is left of each of three adapters with the squares of its keys.
 fn of_adapters(alloc: Global) -> Result<Vec<(u32, ((), ()))>, Fail> {
     let skipped = (0..9u32).pairs().skip(1);
     let tested = (0..9u32).pairs().filter(|p| p.0 % 2 == 0);
@@ -296,8 +296,8 @@ fn marks_of_one_pair_or_none(rt: HostRuntime) -> Result<(), Fail> {
     Ok(())
 }
 
-/// The pairs of two maps that have one key, by a range of the one and the iterator of the other,
-/// with the keys in turn.
+// The pairs of two maps that have one key, by a range of the one and the iterator of the other,
+// with the keys in turn.
 fn of_maps(
     alloc: Global,
     a: &BTreeMap<u32, char>,
@@ -307,7 +307,7 @@ fn of_maps(
     Ok(ranged.union(b.into_iter().keys()).collect(alloc)?)
 }
 
-/// The first pair of two maps that have one key.
+// The first pair of two maps that have one key.
 fn first_of_maps<K: Ord + Copy, V: Copy, W: Copy>(
     a: &BTreeMap<K, V>,
     b: &BTreeMap<K, W>,

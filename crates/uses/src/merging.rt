@@ -6,8 +6,8 @@ use sorted_pairs::{AssumeSortedByKeyExt, SortedPairIterator};
 use sorted_vector_map::SortedVectorMap;
 use std::alloc::{AllocError, Global};
 
-/// The pairs of two maps that have one key, each with both values, in the order of the keys. O(n +
-/// m) comparisons.
+/// Returns the pairs of two maps that have one key, each with both values, in the order of the
+/// keys. O(n + m) comparisons.
 pub fn merge_join<K: Ord + Copy, V: Copy, W: Copy>(
     alloc: Global,
     a: &SortedVectorMap<K, V>,
@@ -24,8 +24,8 @@ pub fn merge_join<K: Ord + Copy, V: Copy, W: Copy>(
     Ok(all)
 }
 
-/// Each pair of the first map, with the value of the second one at its key, if any, in the order of
-/// the keys. O(n + m) comparisons.
+/// Returns each pair of the first map, with the value of the second one at its key, if any, in the
+/// order of the keys. O(n + m) comparisons.
 pub fn left_merge_join<K: Ord + Copy, V: Copy, W: Copy>(
     alloc: Global,
     a: &SortedVectorMap<K, V>,

@@ -9,7 +9,7 @@ use sorted_vector_map::SortedVectorMap;
 use sorted_vector_set::SortedVectorSet;
 use std::alloc::{AllocError, Global};
 
-/// The keys of either map, ascending, each once.
+/// Returns the keys of either map, ascending, each once.
 pub fn keys_of_either<K: Ord + Copy, V, W>(
     alloc: Global,
     a: &SortedVectorMap<K, V>,
@@ -23,7 +23,7 @@ pub fn keys_of_either<K: Ord + Copy, V, W>(
     left.union(right).collect(alloc)
 }
 
-/// The items of `a` that have an equal in `b`, ascending.
+/// Returns the items of `a` that have an equal in `b`, ascending.
 pub fn items_of_both<T: Ord + Copy>(
     alloc: Global,
     a: &SortedVectorSet<T>,
@@ -36,7 +36,8 @@ pub fn items_of_both<T: Ord + Copy>(
     left.intersection(right).collect(alloc)
 }
 
-/// How many keys two maps have together. The stream hands out references, and nothing is copied.
+/// Returns how many keys two maps have together. The stream hands out references, and nothing is
+/// copied.
 pub fn number_of_keys<K: Ord, V, W>(a: &SortedVectorMap<K, V>, b: &SortedVectorMap<K, W>) -> usize {
     let left = a.keys().assume_sorted_by_item();
     let mut count = 0usize;
@@ -46,7 +47,7 @@ pub fn number_of_keys<K: Ord, V, W>(a: &SortedVectorMap<K, V>, b: &SortedVectorM
     count
 }
 
-/// Whether each item of `a` is in `b`, by streams of references.
+/// Returns whether each item of `a` is in `b`, by streams of references.
 pub fn is_part_of<T: Ord>(a: &SortedVectorSet<T>, b: &SortedVectorSet<T>) -> bool {
     let left = a.iter().assume_sorted_by_item();
     left.is_subset(b.iter().assume_sorted_by_item())

@@ -15,8 +15,8 @@ use crate::pairs::{answer_each, retain_by_value};
 use crate::range::Range;
 use element_core::Element;
 
-/// Makes `last` longer where `next` begins behind it with an equal value, and answers whether it
-/// does.
+// Makes `last` longer where `next` begins behind it with an equal value, and answers whether it
+// does.
 fn join_next<T: Element, V: Eq>(last: &mut (Range<T>, V), next: &(Range<T>, V)) -> bool
     ensures range { IsRange T.numbers last.new.0 }
     ensures joins { result ≡ goes_on V.eq (pair_in_numbers T.numbers last.old)
@@ -36,7 +36,7 @@ fn join_next<T: Element, V: Eq>(last: &mut (Range<T>, V), next: &(Range<T>, V)) 
     true
 }
 
-/// Joins touching ranges with equal values, whose first value stays.
+// Joins touching ranges with equal values, whose first value stays.
 fn join_touching<T: Element, V: Eq + Drop>(pairs: &mut Vec<(Range<T>, V)>)
     requires { AreValuedRanges T.numbers pairs.old.items }
     ensures ranges { AreValuedRanges T.numbers pairs.new.items }
@@ -49,7 +49,7 @@ fn join_touching<T: Element, V: Eq + Drop>(pairs: &mut Vec<(Range<T>, V)>)
 impl<T: Element, V: Eq> RangeMap<T, V> {
     /// Calls `f` once for each range, in order, with its value, and writes the answer in the
     /// value's place. The keys stay. Of touching ranges with equal answers, which become one, the
-    /// first answer stays. Takes O(n) time for n ranges, beside the calls, and no memory.
+    /// first answer stays. O(n) time for n ranges, beside the calls, no memory.
     pub fn map_values<F: FnMut(&V) -> V>(&mut self, mut f: F)
     where
         V: Drop,
@@ -63,7 +63,7 @@ impl<T: Element, V: Eq> RangeMap<T, V> {
     }
 
     /// Calls `f` once for each range, in order, with its value, and keeps the ranges at which it
-    /// answers true. Takes O(n) time for n ranges, beside the calls, and no memory.
+    /// answers true. O(n) time for n ranges, beside the calls, no memory.
     pub fn retain_values<F: FnMut(&V) -> bool>(&mut self, f: F)
     where
         V: Drop,

@@ -8,7 +8,7 @@ use crate::range::Range;
 use element_core::{Element, NoMemory};
 use std::alloc::Global;
 
-/// Clones of the pairs, in their order.
+// Clones of the pairs, in their order.
 fn clones_of_pairs<T: Element, V: Eq + Clone + Drop>(
     alloc: Global,
     pairs: &[(Range<T>, V)],
@@ -28,8 +28,8 @@ fn clones_of_pairs<T: Element, V: Eq + Clone + Drop>(
 }
 
 impl<T: Element, V: Eq> RangeMap<T, V> {
-    /// A map equal to this one, with clones of its values. Takes O(n) time for n ranges, beside the
-    /// clones.
+    /// Returns a map equal to this one, with clones of its values. O(n) time for n ranges, beside
+    /// the clones.
     pub fn try_clone(&self, alloc: Global) -> Result<Self, NoMemory>
     where
         V: Clone + Drop,

@@ -11,7 +11,7 @@ use element_core::{Element, NoMemory, is_below};
 use std::alloc::Global;
 
 impl<T: Element, V: Eq> RangeMap<T, V> {
-    /// Whether every value of the type is a key. Takes O(n) time for n ranges, and no memory.
+    /// Returns whether every value of the type is a key. O(n) time for n ranges, no memory.
     pub fn is_full(&self) -> bool
         ensures { IsTrue result ↔ ((x : ℤ) → T.numbers.least ≤ℤ x → x ≤ℤ T.numbers.greatest
             → is_some (value_at self.now x) ≡ true) }
@@ -34,8 +34,8 @@ impl<T: Element, V: Eq> RangeMap<T, V> {
         false
     }
 
-    /// The number of keys, or `usize::MAX` where there are more. Takes O(n) time for n ranges, and
-    /// no memory.
+    /// Returns the number of keys, or `usize::MAX` where there are more. O(n) time for n ranges, no
+    /// memory.
     pub fn num_keys(&self) -> usize
         ensures { result ≡ min (length (members (ranges_of self.now))) usize.MAX }
     {
@@ -46,7 +46,7 @@ impl<T: Element, V: Eq> RangeMap<T, V> {
         count
     }
 
-    /// The set of the keys. Takes O(n) time for n ranges.
+    /// Returns the set of the keys. O(n) time for n ranges.
     pub fn to_range_set(&self, alloc: Global) -> Result<RangeSet<T>, NoMemory>
         ensures canonical { IfOk result (IsCanonical T.numbers.least T.numbers.greatest) }
         ensures members { IfOk result (λ set. (x : ℤ)

@@ -18,14 +18,14 @@ use std::alloc::Global;
 use std::cmp::Ordering;
 use std::mem;
 
-/// How two ranges compare: by their starts, and where these are equal by their ends.
+// Returns how two ranges compare: by their starts, and where these are equal by their ends.
 fn compare_ranges<T: Element>(a: &Range<T>, b: &Range<T>) -> Ordering
     ensures { result ≡ range_cmp (in_numbers T.numbers a.now) (in_numbers T.numbers b.now) }
 {
     compare(a.start(), b.start()).then(compare(a.end(), b.end()))
 }
 
-/// Whether `next` overlaps `last` with another value.
+// Returns whether `next` overlaps `last` with another value.
 fn clash<T: Element, V: Eq>(last: &(Range<T>, V), next: &(Range<T>, V)) -> bool
     ensures { result ≡ clashes V.eq (pair_in_numbers T.numbers last.now)
         (pair_in_numbers T.numbers next.now) }
@@ -33,7 +33,7 @@ fn clash<T: Element, V: Eq>(last: &(Range<T>, V), next: &(Range<T>, V)) -> bool
     last.0.intersects(&next.0) && last.1 != next.1
 }
 
-/// Whether `next` overlaps or touches `last` with an equal value.
+// Returns whether `next` overlaps or touches `last` with an equal value.
 fn join<T: Element, V: Eq>(last: &(Range<T>, V), next: &(Range<T>, V)) -> bool
     ensures { result ≡ joins V.eq (pair_in_numbers T.numbers last.now)
         (pair_in_numbers T.numbers next.now) }
@@ -41,7 +41,7 @@ fn join<T: Element, V: Eq>(last: &(Range<T>, V), next: &(Range<T>, V)) -> bool
     (last.0.intersects(&next.0) || last.0.touches(&next.0)) && last.1 == next.1
 }
 
-/// The range as far as the larger of its own end and that of `next`.
+// Returns the range as far as the larger of its own end and that of `next`.
 fn grow<T: Element>(range: &Range<T>, next: &Range<T>) -> Range<T>
     ensures value { in_numbers T.numbers result ≡ (
       T.numbers.number range.now.0,
@@ -63,7 +63,7 @@ struct Divided<T: Element, V> {
     discarded: Vec<(Range<T>, V)>,
 }
 
-/// Walks pairs in order with the last kept one.
+// Walks pairs in order with the last kept one.
 fn divide_sorted<T: Element, V: Eq + Drop>(
     alloc: Global,
     pairs: Vec<(Range<T>, V)>,
@@ -99,7 +99,7 @@ fn divide_sorted<T: Element, V: Eq + Drop>(
     Ok(Divided { kept, discarded })
 }
 
-/// Sorts the pairs by their ranges, those with one range in the order in which they came.
+// Sorts the pairs by their ranges, those with one range in the order in which they came.
 fn sort_by_range<T: Element, V>(pairs: &mut Vec<(Range<T>, V)>) -> Result<(), NoMemory>
     ensures permutation { OnOk result (IsPermutation pairs.old.items pairs.new.items) }
     ensures placed { OnOk result
@@ -110,7 +110,7 @@ fn sort_by_range<T: Element, V>(pairs: &mut Vec<(Range<T>, V)>) -> Result<(), No
     Ok(())
 }
 
-/// Which of the pairs are kept, as the list of a map, and which are discarded.
+// Returns which of the pairs are kept, as the list of a map, and which are discarded.
 fn divide<T: Element, V: Eq + Drop>(
     alloc: Global,
     mut pairs: Vec<(Range<T>, V)>,
@@ -126,7 +126,7 @@ fn divide<T: Element, V: Eq + Drop>(
     Ok(divided)
 }
 
-/// The same of the pairs that `iter` gives.
+// Returns the same of the pairs that `iter` gives.
 fn divide_all<T: Element, V: Eq + Drop, I: IntoIterator<Item = (Range<T>, V)>>(
     alloc: Global,
     iter: I,
@@ -146,11 +146,10 @@ fn divide_all<T: Element, V: Eq + Drop, I: IntoIterator<Item = (Range<T>, V)>>(
 }
 
 impl<T: Element, V: Eq + Drop> RangeMap<T, V> {
-    /// The map of the pairs that `iter` gives, in any order. They are taken in the order of their
-    /// ranges, and those with one range in the order in which they came: a pair that overlaps or
-    /// touches the range before it with an equal value makes that range grow, whose value stays,
-    /// and a pair that overlaps it with another value is discarded. Takes O(n log n) time for n
-    /// pairs.
+    /// Returns the map of the pairs that `iter` gives, in any order. They are taken in the order of
+    /// their ranges, and those with one range in the order in which they came: a pair that overlaps
+    /// or touches the range before it with an equal value makes that range grow, whose value stays,
+    /// and a pair that overlaps it with another value is discarded. O(n log n) time for n pairs.
     ///
     /// Where a pair is discarded, the answer is `Overlap` with the map of the others and the
     /// discarded pairs.

@@ -13,7 +13,7 @@ use element_core::Element;
 /// The keys of a map, ascending, each with its value. Contracts speak of those still to come by
 /// `pairs_left`, the list of their numbers with the values.
 ///
-/// Each call takes O(1) time and no memory.
+/// Each call O(1) time, no memory.
 #[derive(Clone, Copy, Debug)]
 pub struct PairIter<'a, T: Element, V> {
     // What is left of the first range, where it was begun.
@@ -52,7 +52,7 @@ impl<'a, T: Element, V> Iterator for PairIter<'a, T, V> {
 }
 
 impl<T: Element, V: Eq> RangeMap<T, V> {
-    /// The keys, ascending, each with its value. Takes O(1) time and no memory.
+    /// Returns the keys, ascending, each with its value. O(1) time, no memory.
     pub fn keys_values(&self) -> PairIter<'_, T, V>
         ensures { pairs_left T.numbers result ≡ keys_values self.now }
     {

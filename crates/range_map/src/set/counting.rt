@@ -8,7 +8,7 @@ use crate::range::Range;
 use crate::set::RangeSet;
 use element_core::{Element, is_below};
 
-/// The number of values in the range, or `usize::MAX` where there are more.
+// Returns the number of values in the range, or `usize::MAX` where there are more.
 pub(crate) fn size_of<T: Element>(range: &Range<T>) -> usize
     ensures { result ≡ min (size (in_numbers T.numbers range.now)) usize.MAX }
 {
@@ -16,7 +16,7 @@ pub(crate) fn size_of<T: Element>(range: &Range<T>) -> usize
 }
 
 impl<T: Element> RangeSet<T> {
-    /// Whether every value of the type is a member. Takes O(1) time and no memory.
+    /// Returns whether every value of the type is a member. O(1) time, no memory.
     pub fn is_full(&self) -> bool
         ensures { IsTrue result ↔ ((x : ℤ) → T.numbers.least ≤ℤ x → x ≤ℤ T.numbers.greatest
             → holds self.now x ≡ true) }
@@ -32,8 +32,8 @@ impl<T: Element> RangeSet<T> {
         }
     }
 
-    /// The number of members, or `usize::MAX` where there are more. Takes O(n) time for n ranges,
-    /// and no memory.
+    /// Returns the number of members, or `usize::MAX` where there are more. O(n) time for n ranges,
+    /// no memory.
     pub fn num_elements(&self) -> usize
         ensures { result ≡ min (length (members self.now)) usize.MAX }
     {

@@ -13,14 +13,14 @@ use element_core::{Element, is_at_most};
 /// The members of a set, ascending. Contracts speak of those still to come by `members_left`, the
 /// list of their numbers.
 ///
-/// Each call takes O(1) time and no memory.
+/// Each call O(1) time, no memory.
 #[derive(Clone, Copy, Debug)]
 pub struct EltIter<'a, T: Element> {
     begun: Option<Range<T>>,
     rest: &'a [Range<T>],
 }
 
-/// The range without its first value, or `None` where it has no other.
+// Returns the range without its first value, or `None` where it has no other.
 pub(crate) fn without_first<T: Element>(range: &Range<T>) -> Option<Range<T>>
     ensures more { IfSome result
         (λ _. T.numbers.number range.now.0 <ℤ T.numbers.number range.now.1) }
@@ -37,7 +37,7 @@ pub(crate) fn without_first<T: Element>(range: &Range<T>) -> Option<Range<T>>
     }
 }
 
-/// The range that was begun or else the next one, and the ranges behind it.
+// Returns the range that was begun or else the next one, and the ranges behind it.
 fn next_range<'a, T: Element>(
     begun: Option<Range<T>>,
     rest: &'a [Range<T>],
@@ -83,7 +83,7 @@ impl<'a, T: Element> Iterator for EltIter<'a, T> {
 }
 
 impl<T: Element> RangeSet<T> {
-    /// The members, ascending. Takes O(1) time and no memory.
+    /// Returns the members, ascending. O(1) time, no memory.
     pub fn elements(&self) -> EltIter<'_, T>
         ensures { members_left T.numbers result ≡ members self.now }
     {

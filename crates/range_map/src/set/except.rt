@@ -13,8 +13,8 @@ use crate::set::RangeSet;
 use element_core::{Element, NoMemory, is_at_most, is_below};
 use std::alloc::Global;
 
-/// The value behind `last`, or the least one where there is none; `None` where `last` is the
-/// greatest.
+// Returns the value behind `last`, or the least one where there is none; `None` where `last` is
+// the greatest.
 fn value_after<T: Element>(last: Option<T>) -> Option<T>
     ensures some { IfSome result (λ next. T.numbers.number next ≡ number_after T.numbers last) }
     ensures none { IfNone result (number_after T.numbers last ≡ T.numbers.greatest +ℤ pos 1) }
@@ -25,7 +25,7 @@ fn value_after<T: Element>(last: Option<T>) -> Option<T>
     }
 }
 
-/// Whether `x` is less than `last`.
+// Returns whether `x` is less than `last`.
 fn is_below_last<T: Element>(x: T, last: Option<T>) -> bool
     ensures below { OnTrue result ((v : T) × (last ≡ Some v)
         × (T.numbers.number x <ℤ T.numbers.number v)) }
@@ -38,7 +38,7 @@ fn is_below_last<T: Element>(x: T, last: Option<T>) -> bool
     }
 }
 
-/// Puts the values behind `last` and below `x` behind the others, if there are any.
+// Puts the values behind `last` and below `x` behind the others, if there are any.
 fn push_gap_to<T: Element>(set: &mut RangeSet<T>, last: Option<T>, x: T) -> Result<(), NoMemory>
     requires { EndApart (number_after T.numbers last) set.old }
     ensures pushed { OnOk result (IsGapPushed set.old (number_after T.numbers last)
@@ -55,7 +55,7 @@ fn push_gap_to<T: Element>(set: &mut RangeSet<T>, last: Option<T>, x: T) -> Resu
     Ok(())
 }
 
-/// Puts the values behind `last` behind the others, if there are any.
+// Puts the values behind `last` behind the others, if there are any.
 fn push_gap_to_end<T: Element>(set: &mut RangeSet<T>, last: Option<T>) -> Result<(), NoMemory>
     requires { EndApart (number_after T.numbers last) set.old }
     ensures { OnOk result (IsGapPushed set.old (number_after T.numbers last)
@@ -69,9 +69,9 @@ fn push_gap_to_end<T: Element>(set: &mut RangeSet<T>, last: Option<T>) -> Result
 }
 
 impl<T: Element> RangeSet<T> {
-    /// The set of all values but those that `it` gives, or `None` where some of these is less than
-    /// the one before it. A value may come again and again; where none comes, the set is full.
-    /// Takes O(n) calls of `next` and O(n) time for n values, and memory for the set.
+    /// Returns the set of all values but those that `it` gives, or `None` where some of these is
+    /// less than the one before it. A value may come again and again; where none comes, the set is
+    /// full. Takes O(n) calls of `next` and O(n) time for n values, and memory for the set.
     pub fn except<I: Iterator<Item = T>>(alloc: Global, it: I) -> Result<Option<Self>, NoMemory>
         requires { I.can_next it × IsFinite (I.remaining it) }
         ensures { IfOk result (λ set. (values : List T) × Drains I.next_gives it values

@@ -10,7 +10,7 @@ use crate::set::RangeSet;
 use element_core::{Element, NoMemory, compare};
 use std::alloc::Global;
 
-/// The set of the values in any of the ranges, which begin in order.
+// Returns the set of the values in any of the ranges, which begin in order.
 fn join_in_order<T: Element>(alloc: Global, ranges: &[Range<T>]) -> Result<RangeSet<T>, NoMemory>
     requires { BeginInOrder (all_in_numbers T.numbers ranges.now) }
     ensures canonical { IfOk result (IsCanonical T.numbers.least T.numbers.greatest) }
@@ -24,7 +24,7 @@ fn join_in_order<T: Element>(alloc: Global, ranges: &[Range<T>]) -> Result<Range
     Ok(set)
 }
 
-/// The set of the values in any of the ranges.
+// Returns the set of the values in any of the ranges.
 fn join_all<T: Element>(alloc: Global, mut ranges: Vec<Range<T>>) -> Result<RangeSet<T>, NoMemory>
     ensures canonical { IfOk result (IsCanonical T.numbers.least T.numbers.greatest) }
     ensures members { IfOk result
@@ -35,8 +35,8 @@ fn join_all<T: Element>(alloc: Global, mut ranges: Vec<Range<T>>) -> Result<Rang
 }
 
 impl<T: Element> RangeSet<T> {
-    /// The set of the values in any of the ranges that `iter` gives, in any order; they may
-    /// overlap. Takes O(n log n) time for n ranges.
+    /// Returns the set of the values in any of the ranges that `iter` gives, in any order; they may
+    /// overlap. O(n log n) time for n ranges.
     pub fn try_from_iter<I: IntoIterator<Item = Range<T>>>(
         alloc: Global,
         iter: I,

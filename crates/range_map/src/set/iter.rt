@@ -12,7 +12,7 @@ use std::marker::Model;
 /// The ranges of a set, ascending, seen as the list of those still to come, each by the numbers of
 /// its two ends.
 ///
-/// Each call takes O(1) time and no memory.
+/// Each call O(1) time, no memory.
 #[derive(Debug, Drop)]
 pub struct RangeIter<'a, T: Element> {
     pub(crate) ranges: &'a [Range<T>],

@@ -22,8 +22,8 @@ pub(crate) struct Taken<'a, T: Element> {
     pub(crate) right: &'a [Range<T>],
 }
 
-/// Takes the range that begins first; the left one, where both first ranges begin with one value.
-/// `None` where both lists are empty.
+// Takes the range that begins first; the left one, where both first ranges begin with one value.
+// `None` where both lists are empty.
 pub(crate) fn take_first<'a, T: Element>(
     left: &'a [Range<T>],
     right: &'a [Range<T>],
@@ -66,7 +66,7 @@ pub(crate) fn take_first<'a, T: Element>(
     }
 }
 
-/// Whether `next`, which begins no earlier than `last`, overlaps or touches it.
+// Returns whether `next`, which begins no earlier than `last`, overlaps or touches it.
 fn joins<T: Element>(last: &Range<T>, next: &Range<T>) -> bool
     ensures { MatchBool result
         (T.numbers.number next.now.0 ≤ℤ (T.numbers.number last.now.1 +ℤ pos 1))
@@ -80,8 +80,8 @@ fn joins<T: Element>(last: &Range<T>, next: &Range<T>) -> bool
     }
 }
 
-/// Puts `range` behind the ranges of a set, none of which begins later and for which there is room,
-/// as one with the last of them where the two overlap or touch.
+// Puts `range` behind the ranges of a set, none of which begins later and for which there is room,
+// as one with the last of them where the two overlap or touch.
 fn join_last<T: Element>(list: &mut Vec<Range<T>>, range: Range<T>)
     requires set { IsSet T.numbers list.old.items }
     requires begin_by { BeginBy (T.numbers.number range.0)
@@ -109,7 +109,7 @@ fn join_last<T: Element>(list: &mut Vec<Range<T>>, range: Range<T>)
 }
 
 impl<T: Element> RangeSet<T> {
-    /// The empty set, with room for so many ranges.
+    // Returns the empty set, with room for so many ranges.
     pub(crate) fn with_capacity(alloc: Global, ranges: usize) -> Result<Self, NoMemory>
         ensures { IfOk result (λ set. set ≡ []) }
     {
@@ -117,8 +117,8 @@ impl<T: Element> RangeSet<T> {
         Ok(RangeSet { ranges })
     }
 
-    /// Puts `range` behind the others, none of which begins later, as one with the last of them
-    /// where the two overlap or touch.
+    // Puts `range` behind the others, none of which begins later, as one with the last of them
+    // where the two overlap or touch.
     pub(crate) fn push_joined(&mut self, range: Range<T>) -> Result<(), NoMemory>
         requires { BeginBy (T.numbers.number range.0) self.old }
         ensures { OnOk result (IsJoined T.numbers.least T.numbers.greatest self.old
@@ -129,7 +129,7 @@ impl<T: Element> RangeSet<T> {
         Ok(())
     }
 
-    /// Puts `range` behind the others, which end two values or more before it.
+    // Puts `range` behind the others, which end two values or more before it.
     pub(crate) fn push_apart(&mut self, range: Range<T>) -> Result<(), NoMemory>
         requires { EndApart (T.numbers.number range.0) self.old }
         ensures { OnOk result (self.new ≡ self.old ++ in_numbers T.numbers range ∷ []) }
@@ -141,7 +141,7 @@ impl<T: Element> RangeSet<T> {
         Ok(())
     }
 
-    /// Puts the values from `start` to below `range` behind the others, if there are any.
+    // Puts the values from `start` to below `range` behind the others, if there are any.
     pub(crate) fn push_gap(&mut self, start: T, range: &Range<T>) -> Result<(), NoMemory>
         requires apart { EndApart (T.numbers.number start) self.old }
         requires no_later { T.numbers.number start ≤ℤ T.numbers.number range.now.0 }
@@ -157,7 +157,7 @@ impl<T: Element> RangeSet<T> {
         Ok(())
     }
 
-    /// Puts the values in both ranges behind the others, if there are any.
+    // Puts the values in both ranges behind the others, if there are any.
     pub(crate) fn push_common(&mut self, left: &Range<T>, right: &Range<T>) -> Result<(), NoMemory>
         requires { (x : ℤ) → (lies_in (in_numbers T.numbers left.now) x
             && lies_in (in_numbers T.numbers right.now) x) ≡ true → EndApart x self.old }

@@ -35,8 +35,8 @@ impl<'a, T: Element> Model for ActivePlaces<'a, T> {
         × AscendFrom 0 active.places.items };
 }
 
-/// Takes `place` off where it is the last one, and else puts it behind the others. None of them is
-/// greater.
+// Takes `place` off where it is the last one, and else puts it behind the others. None of them is
+// greater.
 fn toggle(places: &mut Vec<usize>, place: usize) -> Result<(), NoMemory>
     requires { AscendBelow 0 (place + 1) places.old.items }
     ensures ascending { OnOk result (AscendBelow 0 (place + 1) places.new.items) }
@@ -53,7 +53,7 @@ fn toggle(places: &mut Vec<usize>, place: usize) -> Result<(), NoMemory>
     Ok(())
 }
 
-/// The places that stand in a sorted list an odd number of times.
+// Returns the places that stand in a sorted list an odd number of times.
 fn odd_ones(alloc: Global, sorted: &[usize]) -> Result<Vec<usize>, NoMemory>
     requires { IsSorted nat_cmp sorted.now }
     ensures ascending { IfOk result (λ odd. AscendFrom 0 odd.items) }
@@ -68,9 +68,9 @@ fn odd_ones(alloc: Global, sorted: &[usize]) -> Result<Vec<usize>, NoMemory>
 }
 
 impl<'a, T: Element> ActivePlaces<'a, T> {
-    /// Goes on to `x`, which must not be below what was entered before. Takes O(n + m log m) time
-    /// and O(n + m) memory for n places and m bounds that are passed. After `NoMemory` everything
-    /// is as before.
+    /// Goes on to `x`, which must not be below what was entered before. O(n + m log m) time and O(n
+    /// + m) memory for n places and m bounds that are passed. After `NoMemory` everything is as
+    /// before.
     pub fn enter(&mut self, alloc: Global, x: T) -> Result<(), NoMemory>
         ensures goes_on { OnOk result (StaysActive T.numbers.greatest (T.numbers.number x)
             self.old self.new) }
@@ -97,7 +97,7 @@ impl<'a, T: Element> ActivePlaces<'a, T> {
         Ok(())
     }
 
-    /// The places, ascending. Takes O(1) time and no memory.
+    /// Returns the places, ascending. O(1) time, no memory.
     pub fn places(&self) -> &[usize]
         ensures { result.now ≡ self.now.places }
     {

@@ -44,7 +44,7 @@ impl<T: Element> Model for Bounds<T> {
         (map (λ bound. bound.at) all.bounds.items) };
 }
 
-/// Puts the bounds of `range` behind the others. An end at the greatest value has none.
+// Puts the bounds of `range` behind the others. An end at the greatest value has none.
 fn push_bounds<T: Element>(
     bounds: &mut Vec<Bound<T>>,
     range: &Range<T>,
@@ -70,7 +70,7 @@ fn push_bounds<T: Element>(
 }
 
 impl<T: Element> Bounds<T> {
-    /// The bounds of the ranges of `pairs`. Takes O(n log n) time for n pairs.
+    /// Returns the bounds of the ranges of `pairs`. O(n log n) time for n pairs.
     pub fn new<V>(alloc: Global, pairs: &[(Range<T>, V)]) -> Result<Self, NoMemory>
         ensures { IfOk result
             (AreBounds T.numbers.greatest (ranges_of (pairs_in_numbers T.numbers pairs.now))) }
@@ -83,8 +83,8 @@ impl<T: Element> Bounds<T> {
         Ok(Bounds { bounds })
     }
 
-    /// The values at which ranges begin or have just ended, ascending, each as often as it does.
-    /// Takes O(n) time for n bounds.
+    /// Returns the values at which ranges begin or have just ended, ascending, each as often as it
+    /// does. O(n) time for n bounds.
     pub fn cuts(&self, alloc: Global) -> Result<Vec<T>, NoMemory>
         ensures cuts { IfOk result
             (λ cuts. numbers_of T.numbers cuts.items ≡ map (λ bound. bound.0) self.now) }
@@ -98,7 +98,7 @@ impl<T: Element> Bounds<T> {
         Ok(cuts)
     }
 
-    /// The places of the ranges that hold a number, before the least one. Takes O(1) time and no
+    /// Returns the places of the ranges that hold a number, before the least one. O(1) time, no
     /// memory.
     pub fn active(&self, alloc: Global) -> ActivePlaces<'_, T>
         ensures { StartsActive T.numbers.greatest self.now result }
@@ -109,8 +109,8 @@ impl<T: Element> Bounds<T> {
         }
     }
 
-    /// The greatest place of the ranges that hold a number, before the least one. Takes O(1) time
-    /// and no memory.
+    /// Returns the greatest place of the ranges that hold a number, before the least one. O(1)
+    /// time, no memory.
     pub fn last_place(&self, alloc: Global) -> LastPlace<'_, T>
         ensures { StartsActive T.numbers.greatest self.now result }
     {

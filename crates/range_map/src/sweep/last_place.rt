@@ -36,7 +36,7 @@ impl<'a, T: Element> Model for LastPlace<'a, T> {
         × IsStrictlySortedBy nat_cmp active.places.keys };
 }
 
-/// Takes the place out of the set where it is there, and else puts it in.
+// Takes the place out of the set where it is there, and else puts it in.
 fn cross(places: &mut BTreeSet<usize>, place: usize) -> Result<(), NoMemory>
     ensures ascending { IsStrictlySortedBy nat_cmp places.new.keys }
     ensures crossed { OnOk result (IsToggled places.old.keys place places.new.keys) }
@@ -50,9 +50,9 @@ fn cross(places: &mut BTreeSet<usize>, place: usize) -> Result<(), NoMemory>
 }
 
 impl<'a, T: Element> LastPlace<'a, T> {
-    /// Goes on to `x`, which must not be below what was entered before. Takes O(log n) time for
-    /// each bound that is passed, of n pairs. After `NoMemory` the same value, or a greater one,
-    /// may be entered still.
+    /// Goes on to `x`, which must not be below what was entered before. O(log n) time for each
+    /// bound that is passed, of n pairs. After `NoMemory` the same value, or a greater one, may be
+    /// entered still.
     pub fn enter(&mut self, x: T) -> Result<(), NoMemory>
         ensures goes_on { StaysActive T.numbers.greatest (T.numbers.number x) self.old self.new }
         ensures entered { OnOk result (ArePlacesAt T.numbers.greatest (T.numbers.number x)
@@ -69,8 +69,7 @@ impl<'a, T: Element> LastPlace<'a, T> {
         Ok(())
     }
 
-    /// The greatest of the places, or `None` where there is none. Takes O(log n) time and no
-    /// memory.
+    /// Returns the greatest of the places, or `None` where there is none. O(log n) time, no memory.
     pub fn last(&self) -> Option<usize>
         ensures last { IfSome result
             (λ place. (front : List ℕ) × (self.now.places ≡ front ++ place ∷ [])) }

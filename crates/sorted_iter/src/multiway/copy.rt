@@ -34,8 +34,8 @@ impl<I: Iterator> MultiwayUnion<I>
 where
     I::Item: Ord + Drop,
 {
-    /// A stream with the same items still to come, of clones of the items in hand and of the
-    /// inputs. Which of several equal items comes may differ.
+    /// Returns a stream with the same items still to come, of clones of the items in hand and of
+    /// the inputs. Which of several equal items comes may differ.
     ///
     /// Clones of items equal their source, and clones of an input give the same items still to
     /// come. O(k) clones for k inputs; it takes memory, and is refused where there is none.

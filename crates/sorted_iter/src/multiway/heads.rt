@@ -27,7 +27,7 @@ impl<I: Iterator> InputHead<I>
 where
     I::Item: Drop,
 {
-    /// The item, where the input has another one, which takes its place.
+    // Returns the item, where the input has another one, which takes its place.
     pub(crate) fn advance(&mut self) -> Option<I::Item>
         requires { I.can_next self.old.rest }
         ensures steps { GoesOn I.next_gives self.old result self.new }
@@ -37,7 +37,7 @@ where
         Some(mem::replace(&mut self.item, next))
     }
 
-    /// The same place with a clone of the item and one of the rest of the input.
+    // Returns the same place with a clone of the item and one of the rest of the input.
     pub(crate) fn try_clone(&self) -> Result<Self, NoMemory>
     where
         I: Clone,

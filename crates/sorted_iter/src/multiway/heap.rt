@@ -50,7 +50,7 @@ where
     }
 }
 
-/// Moves the first head down to its place, where the others are in order.
+// Moves the first head down to its place, where the others are in order.
 pub(crate) fn sift_down<I: Iterator>(heads: &mut Vec<InputHead<I>>)
 where
     I::Item: Ord + Drop,
@@ -61,7 +61,7 @@ where
     sift_from(heads, 0);
 }
 
-/// Puts any heads in order, in O(k).
+// Puts any heads in order, in O(k).
 pub(crate) fn heapify<I: Iterator>(heads: &mut Vec<InputHead<I>>)
 where
     I::Item: Ord + Drop,

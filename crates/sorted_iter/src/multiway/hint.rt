@@ -12,8 +12,8 @@ fn add_upper(sum: Option<usize>, most: Option<usize>) -> Option<usize>
     sum?.checked_add(most?)?.checked_add(1)
 }
 
-/// The hint from the inputs' own: the greatest lower number plus 1, and the sum of the upper ones,
-/// each plus 1.
+// Returns the hint from the inputs' own: the greatest lower number plus 1, and the sum of the
+// upper ones, each plus 1.
 pub(crate) fn hint_of<I: Iterator>(heads: &Vec<InputHead<I>>) -> (usize, Option<usize>)
 where
     I::Item: Drop,

@@ -39,7 +39,8 @@ where
     Ok(heads)
 }
 
-/// Each value that some input holds, once, ascending. Which of several equal items comes is open.
+/// Returns each value that some input holds, once, ascending. Which of several equal items comes is
+/// open.
 ///
 /// The call asks each input for its first item, and makes a heap of those that have one, in O(k)
 /// for k inputs. All memory is taken here, and the call is refused where there is none: `next`

@@ -8,8 +8,8 @@ use crate::multiway::heads::InputHead;
 use crate::multiway::heap::sift_down;
 use std::cmp::Ordering;
 
-/// The item of the first head, which then goes on to its input's next one or leaves. O(log k), and
-/// takes no memory.
+// Returns the item of the first head, which then goes on to its input's next one or leaves. O(log
+// k) time, no memory.
 pub(crate) fn take_least<I: Iterator>(heads: &mut Vec<InputHead<I>>) -> Option<I::Item>
 where
     I::Item: Ord + Drop,
@@ -52,7 +52,7 @@ where
     }
 }
 
-/// What `take_least` takes, where it is equal to `x`.
+// Returns what `take_least` takes, where it is equal to `x`.
 pub(crate) fn take_equal<I: Iterator>(heads: &mut Vec<InputHead<I>>, x: &I::Item) -> Option<I::Item>
 where
     I::Item: Ord + Drop,

@@ -17,7 +17,7 @@ use std::collections::BTreeSet;
 use std::ops::Range;
 use std::test::Fail;
 
-/// All items of the union of many streams.
+// All items of the union of many streams.
 fn all_of<I: SortedIterator>(alloc: Global, iters: Vec<I>) -> Result<Vec<I::Item>, NoMemory>
 where
     I::Item: Ord + Drop,
@@ -30,7 +30,7 @@ where
     Ok(multiway_union(alloc, iters)?.collect(alloc)?)
 }
 
-/// All items of a clone of the union of many streams.
+// All items of a clone of the union of many streams.
 fn all_of_clone<I: SortedIterator + Clone>(
     alloc: Global,
     iters: Vec<I>,
@@ -51,7 +51,7 @@ where
     Ok(all.try_clone(alloc)?.collect(alloc)?)
 }
 
-/// An item is taken from the union of many streams, and the rest goes into a union.
+// An item is taken from the union of many streams, and the rest goes into a union.
 fn rest_with<I: SortedIterator, J: SortedIterator<Item = I::Item>>(
     alloc: Global,
     iters: Vec<I>,
@@ -76,7 +76,7 @@ fn set_of(alloc: Global, keys: &[u32]) -> Result<BTreeSet<u32>, NoMemory> {
     Ok(set)
 }
 
-/// The items of the union of the keys of three sets, and those of its clone.
+// The items of the union of the keys of three sets, and those of its clone.
 fn union_and_clone(
     alloc: Global,
     a: &BTreeSet<u32>,
@@ -105,7 +105,7 @@ fn three_sets(rt: HostRuntime) -> Result<(), Fail> {
     Ok(())
 }
 
-/// The hint of the union of ranges, just made, and its items.
+// The hint of the union of ranges, just made, and its items.
 fn hint_and_items(
     alloc: Global,
     ranges: Vec<Range<u32>>,
