@@ -1,6 +1,6 @@
 -- An item that is pushed behind a list, and turned to the front of the part from a place on, is put in at that place.
 use borrow.Rule.Slice.PartMut.{mid_of, post_of, put_mid}
-use Rattle.std.proofs.Common.{◌≡◌, ℕ, ◌+◌, ◌-◌, ◌≤◌, List, [], ◌∷◌, ◌++◌, length, take, drop, refl, sym, ap, ◌∙◌, arith}
+use Rattle.std.proofs.Common.{◌≡◌, ℕ, ◌+◌, ◌-◌, ◌≤◌, List, [], ◌∷◌, ◌++◌, length, take, drop, ap, ◌∙◌, arith}
 use Rattle.std.proofs.Math.Seq.{take-append_seam, drop-append_seam}
 use Rattle.std.proofs.lemmas.List.{take-append-le, drop-append-le, drop_all, take_all, append-nil, length-append, length-drop}
 use Rattle.std.proofs.lemmas.List.Edits.{length-insert}
