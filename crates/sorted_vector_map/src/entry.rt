@@ -25,7 +25,7 @@ pub enum Entry<'a, K: Ord, V> {
 }
 
 impl<'a, K: Ord, V> Entry<'a, K, V> {
-    /// Returns the stored key, or the given one where there is none. Takes O(1) time and no memory.
+    /// Returns the stored key, or the given one where there is none. O(1) time, no memory.
     pub fn key(&self) -> &K
         ensures { HasKey self.now result.now }
     {
@@ -95,7 +95,7 @@ impl<'a, K: Ord, V> Entry<'a, K, V> {
     }
 
     /// Calls `f` on the stored value, exactly where the entry is occupied, and returns the entry.
-    /// Takes O(1) time beside the call, and no memory.
+    /// O(1) time beside the call, and no memory.
     pub fn and_modify<F: FnOnce(&mut V)>(self, f: F) -> Entry<'a, K, V>
         requires { (v : MutBor V) → stored self ≡ Some v.now → F.pre f v }
         ensures place { IsSamePlace self.entry result }

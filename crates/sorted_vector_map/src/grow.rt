@@ -22,8 +22,8 @@ impl<K: Ord, V> SortedVectorMap<K, V> {
     /// stored pair.
     ///
     /// Where memory is short, the map stays and the same pairs come back, in any order. That never
-    /// happens without a pair, nor with one that `insert` would take. Takes O(m log m) time for m
-    /// new pairs, and time for the pairs whose keys are above the least new one.
+    /// happens without a pair, nor with one that `insert` would take. O(m log m) time for m new
+    /// pairs, and time for the pairs whose keys are above the least new one.
     pub fn extend_with_vec(&mut self, new: Vec<(K, V)>) -> Result<(), Refused<Vec<(K, V)>>>
     where
         K: Drop,
@@ -104,9 +104,9 @@ impl<K: Ord, V> SortedVectorMap<K, V> {
 
     /// Puts all pairs of `other` in, which is empty then. Of equal keys the pair of `other` stays.
     ///
-    /// Where memory is short, both maps stay. Takes O(log n) time for one search, and O(m)
-    /// amortised time for the m pairs of both maps whose keys aren't below the least key of
-    /// `other`. Where this map is empty it takes O(1) time and no memory, so it is never refused.
+    /// Where memory is short, both maps stay. O(log n) time for one search, and O(m) amortised time
+    /// for the m pairs of both maps whose keys aren't below the least key of `other`. Where this
+    /// map is empty it O(1) time, no memory, so it is never refused.
     pub fn append(&mut self, other: &mut Self) -> Result<(), NoMemory>
     where
         K: Drop,
@@ -130,7 +130,7 @@ impl<K: Ord, V> SortedVectorMap<K, V> {
     }
 
     /// Returns the map of the pairs that `iter` gives: `extend` of the empty map. Where memory is
-    /// short, it is refused, and the pairs are gone. Takes O(m log m) time for m pairs.
+    /// short, it is refused, and the pairs are gone. O(m log m) time for m pairs.
     pub fn try_from_iter<I: IntoIterator<Item = (K, V)>>(
         alloc: Global,
         iter: I,
@@ -150,7 +150,7 @@ impl<K: Ord, V> SortedVectorMap<K, V> {
     }
 
     /// Returns the map of the pairs of `bmap`. Where memory is short, it is refused, and the pairs
-    /// are gone. Takes O(n) time, without comparisons, and memory for all pairs at once.
+    /// are gone. O(n) time, without comparisons, and memory for all pairs at once.
     pub fn try_from_btree_map(alloc: Global, bmap: BTreeMap<K, V>) -> Result<Self, NoMemory>
     where
         K: Drop,
@@ -162,7 +162,7 @@ impl<K: Ord, V> SortedVectorMap<K, V> {
     }
 
     /// Returns a map of clones of the pairs, in their order and with room for them. The clone of a
-    /// key is equal to it. Where memory is short, it is refused. Takes O(n) time.
+    /// key is equal to it. Where memory is short, it is refused. O(n) time.
     pub fn try_clone(&self, alloc: Global) -> Result<Self, NoMemory>
     where
         K: Clone,

@@ -20,8 +20,8 @@ pub use owned::{IntoKeys, IntoValues};
 pub use values_mut::ValuesMut;
 
 impl<K: Ord, V> SortedVectorMap<K, V> {
-    /// Returns the pairs in the order of their keys. Takes O(1) time and no memory, as do the other
-    /// calls that begin an iterator.
+    /// Returns the pairs in the order of their keys. O(1) time, no memory, as do the other calls
+    /// that begin an iterator.
     pub fn iter(&self) -> Iter<'_, K, V>
         ensures pairs { ComesByReference deref_pair self.now.pairs result }
         ensures ascending { IsStrictlySortedBy (by_key K.cmp) self.now.pairs }

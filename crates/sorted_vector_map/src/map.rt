@@ -1,5 +1,5 @@
 //! The map: making one, looking into it, putting pairs in, and taking them out.
-ghost use Rattle.std.specs.Prelude.{Some, ◌≡◌, ◌≤◌, ◌<◌, ◌+◌, ◌-◌, ◌++◌, ◌==◌, [], length, slice_get, IsTrue, IsOk, IfOk, IfErr, IfNone, OnOk, is_ok, if◌then◌else◌};
+ghost use Rattle.std.specs.Prelude.{Some, ◌≡◌, ◌≤◌, ◌<◌, ◌+◌, ◌-◌, ◌++◌, ◌↔◌, [], length, slice_get, IsTrue, IsOk, IfOk, IfErr, IfNone, OnOk, is_ok, if◌then◌else◌};
 ghost use Rattle.std.specs.Borrow.{sem};
 ghost use Rattle.std.specs.List.{insert, remove};
 ghost use Rattle.std.specs.List.Sorted.{IsStrictlySortedBy};
@@ -41,7 +41,7 @@ impl<K: Ord, V> Model for SortedVectorMap<K, V> {
 }
 
 impl<K: Ord, V> SortedVectorMap<K, V> {
-    /// Returns the empty map. Takes O(1) time and no memory.
+    /// Returns the empty map. O(1) time, no memory.
     pub fn new(alloc: Global) -> Self
         ensures { result.pairs ≡ [] }
     {
@@ -51,7 +51,7 @@ impl<K: Ord, V> SortedVectorMap<K, V> {
     }
 
     /// Returns the empty map with room for `capacity` pairs. Where memory is short, or so many
-    /// pairs are more than any memory can hold, it is refused. Takes O(1) time.
+    /// pairs are more than any memory can hold, it is refused. O(1) time.
     pub fn with_capacity(alloc: Global, capacity: usize) -> Result<Self, NoMemory>
         ensures pairs { IfOk result (λ m. m.pairs ≡ []) }
         ensures spare { IfOk result (λ m. capacity ≤ m.spare) }
@@ -60,8 +60,7 @@ impl<K: Ord, V> SortedVectorMap<K, V> {
         Ok(SortedVectorMap { items })
     }
 
-    /// Returns the vector of the pairs, in ascending order of their keys. Takes O(1) time and no
-    /// memory.
+    /// Returns the vector of the pairs, in ascending order of their keys. O(1) time, no memory.
     pub fn into_inner(self) -> Vec<(K, V)>
         ensures pairs { result.items ≡ self.pairs }
         ensures ascending { IsStrictlySortedBy (by_key K.cmp) result.items }
@@ -69,7 +68,7 @@ impl<K: Ord, V> SortedVectorMap<K, V> {
         self.items
     }
 
-    /// Takes all pairs out. Their room stays. Takes O(n) time and no memory.
+    /// Takes all pairs out. Their room stays. O(n) time, no memory.
     pub fn clear(&mut self)
     where
         K: Drop,
@@ -80,22 +79,22 @@ impl<K: Ord, V> SortedVectorMap<K, V> {
         self.items.clear();
     }
 
-    /// Returns the number of pairs. Takes O(1) time and no memory.
+    /// Returns the number of pairs. O(1) time, no memory.
     pub fn len(&self) -> usize
         ensures { result ≡ length self.now.pairs }
     {
         self.items.len()
     }
 
-    /// Returns whether there is no pair. Takes O(1) time and no memory.
+    /// Returns whether there is no pair. O(1) time, no memory.
     pub fn is_empty(&self) -> bool
-        ensures { result ≡ (length self.now.pairs == 0) }
+        ensures { IsTrue result ↔ (self.now.pairs ≡ []) }
     {
         self.items.is_empty()
     }
 
     /// Returns the pair at place `index`, counted from 0 in the order of the keys, or `None` from
-    /// the length on. Takes O(1) time and no memory.
+    /// the length on. O(1) time, no memory.
     pub fn get_key_value_at_index(&self, index: usize) -> Option<(&K, &V)>
         ensures { option_map (λ p. (p.0.now, p.1.now)) result ≡ slice_get self.now.pairs index }
     {
@@ -106,8 +105,8 @@ impl<K: Ord, V> SortedVectorMap<K, V> {
         }
     }
 
-    /// Returns the value at a key equal to `q`, or `None` where there is none. Takes O(log n) time
-    /// and no memory, as do the other calls that look a key up.
+    /// Returns the value at a key equal to `q`, or `None` where there is none. O(log n) time, no
+    /// memory, as do the other calls that look a key up.
     pub fn get(&self, q: &K) -> Option<&V>
         ensures { option_copied result ≡ option_map (λ p. p.1)
             (find (to_key K.cmp) self.now.pairs q.now) }
@@ -171,16 +170,15 @@ impl<K: Ord, V> SortedVectorMap<K, V> {
         self.value_mut_at(at)
     }
 
-    /// Returns the pair of the least key, or `None` where the map is empty. Takes O(1) time and no
-    /// memory.
+    /// Returns the pair of the least key, or `None` where the map is empty. O(1) time, no memory.
     pub fn first_key_value(&self) -> Option<(&K, &V)>
         ensures { option_map (λ p. (p.0.now, p.1.now)) result ≡ slice_get self.now.pairs 0 }
     {
         self.get_key_value_at_index(0)
     }
 
-    /// Returns the pair of the greatest key, or `None` where the map is empty. Takes O(1) time and
-    /// no memory.
+    /// Returns the pair of the greatest key, or `None` where the map is empty. O(1) time, no
+    /// memory.
     pub fn last_key_value(&self) -> Option<(&K, &V)>
         ensures { option_map (λ p. (p.0.now, p.1.now)) result
             ≡ slice_get self.now.pairs (length self.now.pairs - 1) }
@@ -192,8 +190,8 @@ impl<K: Ord, V> SortedVectorMap<K, V> {
     /// returns the old value. Without such a key it puts the pair in and returns `None`.
     ///
     /// Where memory is short, the map stays and the pair comes back. That never happens where an
-    /// equal key is present or the map has spare. Takes O(log n) time, and time for the pairs of
-    /// greater keys, which move; a key above all others takes O(1) amortised time.
+    /// equal key is present or the map has spare. O(log n) time, and time for the pairs of greater
+    /// keys, which move; a key above all others takes O(1) amortised time.
     #[inline]
     pub fn insert(&mut self, k: K, v: V) -> Result<Option<V>, Refused<(K, V)>>
     where
@@ -221,8 +219,8 @@ impl<K: Ord, V> SortedVectorMap<K, V> {
         }
     }
 
-    /// Takes the pair of a key equal to `q` out, or returns `None` where there is none. Takes O(log
-    /// n) time, and time for the pairs of greater keys, which move, and no memory.
+    /// Takes the pair of a key equal to `q` out, or returns `None` where there is none. O(log n)
+    /// time, and time for the pairs of greater keys, which move, and no memory.
     pub fn remove_entry(&mut self, q: &K) -> Option<(K, V)>
         ensures pairs { self.new.pairs ≡ take_out (to_key K.cmp) self.old.pairs q.now }
         ensures taken { result ≡ find (to_key K.cmp) self.old.pairs q.now }
@@ -247,8 +245,8 @@ impl<K: Ord, V> SortedVectorMap<K, V> {
         Some(v)
     }
 
-    /// Takes the pair of the greatest key out, or returns `None` where the map is empty. Takes O(1)
-    /// time and no memory.
+    /// Takes the pair of the greatest key out, or returns `None` where the map is empty. O(1) time,
+    /// no memory.
     pub fn pop_last(&mut self) -> Option<(K, V)>
         ensures pairs { self.old.pairs ≡ self.new.pairs ++ option_to_list result }
         ensures none { IfNone result (self.old.pairs ≡ []) }

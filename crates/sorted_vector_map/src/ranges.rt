@@ -18,8 +18,7 @@ use std::ops::Bound;
 
 impl<K: Ord, V> SortedVectorMap<K, V> {
     /// Returns the pairs whose keys lie within `low` and `high`, which are in order: the low key is
-    /// at most the high one, and they aren't equal and both excluded. Takes O(log n) time and no
-    /// memory.
+    /// at most the high one, and they aren't equal and both excluded. O(log n) time, no memory.
     pub fn range(&self, low: Bound<&K>, high: Bound<&K>) -> Iter<'_, K, V>
         requires { AreInOrder K.cmp (bound_map (λ k. k.now) low) (bound_map (λ k. k.now) high) }
         ensures pairs { ComesByReference deref_pair
@@ -34,8 +33,7 @@ impl<K: Ord, V> SortedVectorMap<K, V> {
 
     /// Keeps the pairs of keys below `q`, and returns a map of the others.
     ///
-    /// Where memory is short, the map stays. Takes O(log n) time, and time for the pairs that
-    /// leave.
+    /// Where memory is short, the map stays. O(log n) time, and time for the pairs that leave.
     pub fn split_off(&mut self, alloc: Global, q: &K) -> Result<Self, NoMemory>
         ensures below { OnOk result (self.new.pairs
             ≡ filter (λ p. is_lt (K.cmp p.0 q.now)) self.old.pairs) }

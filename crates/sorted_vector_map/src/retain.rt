@@ -6,7 +6,7 @@ use crate::map::SortedVectorMap;
 
 impl<K: Ord, V> SortedVectorMap<K, V> {
     /// Calls `f` once on each pair in the order of the keys, and keeps the pairs at which it
-    /// returns true, with the values that the calls left. Takes O(n) time and no memory.
+    /// returns true, with the values that the calls left. O(n) time, no memory.
     pub fn retain<F: FnMut(&K, &mut V) -> bool>(&mut self, mut f: F)
     where
         K: Drop,

@@ -16,7 +16,7 @@ impl<T: Ord> SortedVectorSet<T> {
     /// Returns a set of clones of the items to which an item of `rhs` is equal. The clone of an
     /// item is equal to it.
     ///
-    /// Where memory is short, it is refused. Takes O(n + m) time, as do the other three.
+    /// Where memory is short, it is refused. O(n + m) time, as do the other three.
     pub fn bitand(&self, alloc: Global, rhs: &Self) -> Result<Self, NoMemory>
     where
         T: Clone,

@@ -22,8 +22,8 @@ impl<T: Ord> SortedVectorSet<T> {
     /// Puts the items of `new` in. The last of equal items wins, and replaces a stored one.
     ///
     /// Where memory is short, the set stays and the same items come back, in any order. That never
-    /// happens without an item, nor with one that `insert` would take. Takes O(m log m) time for m
-    /// new items, and time for the items above the least new one.
+    /// happens without an item, nor with one that `insert` would take. O(m log m) time for m new
+    /// items, and time for the items above the least new one.
     pub fn extend_with_vec(&mut self, new: Vec<T>) -> Result<(), Refused<Vec<T>>>
     where
         T: Drop,
@@ -101,9 +101,9 @@ impl<T: Ord> SortedVectorSet<T> {
 
     /// Puts all items of `other` in, which is empty then. Of two equal items that of `other` stays.
     ///
-    /// Where memory is short, both sets stay. Takes O(log n) time for one search, and O(m)
-    /// amortised time for the m items of both sets that aren't below the least item of `other`.
-    /// Where this set is empty it takes O(1) time and no memory, so it is never refused.
+    /// Where memory is short, both sets stay. O(log n) time for one search, and O(m) amortised time
+    /// for the m items of both sets that aren't below the least item of `other`. Where this set is
+    /// empty it O(1) time, no memory, so it is never refused.
     pub fn append(&mut self, other: &mut Self) -> Result<(), NoMemory>
     where
         T: Drop,
@@ -126,7 +126,7 @@ impl<T: Ord> SortedVectorSet<T> {
     }
 
     /// Returns the set of the items that `iter` gives: `extend` of the empty set. Where memory is
-    /// short, it is refused, and the items are gone. Takes O(m log m) time for m items.
+    /// short, it is refused, and the items are gone. O(m log m) time for m items.
     pub fn try_from_iter<I: IntoIterator<Item = T>>(
         alloc: Global,
         iter: I,
@@ -145,7 +145,7 @@ impl<T: Ord> SortedVectorSet<T> {
     }
 
     /// Returns the set of the items of `bset`. Where memory is short, it is refused, and the items
-    /// are gone. Takes O(n) time, without comparisons, and memory for all items at once.
+    /// are gone. O(n) time, without comparisons, and memory for all items at once.
     pub fn try_from_btree_set(alloc: Global, bset: BTreeSet<T>) -> Result<Self, NoMemory>
     where
         T: Drop,
@@ -156,8 +156,7 @@ impl<T: Ord> SortedVectorSet<T> {
     }
 
     /// Returns a set of clones of the items, in their order and with room for them. The clone of an
-    /// item is equal to it, so the sets are equal. Where memory is short, it is refused. Takes O(n)
-    /// time.
+    /// item is equal to it, so the sets are equal. Where memory is short, it is refused. O(n) time.
     pub fn try_clone(&self, alloc: Global) -> Result<Self, NoMemory>
     where
         T: Clone,

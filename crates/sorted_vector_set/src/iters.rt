@@ -12,8 +12,8 @@ use std::slice::Iter;
 use std::vec::IntoIter;
 
 impl<T: Ord> SortedVectorSet<T> {
-    /// Returns the items in ascending order, from both ends, with their exact number. Takes O(1)
-    /// time and no memory, as does each of its calls.
+    /// Returns the items in ascending order, from both ends, with their exact number. O(1) time, no
+    /// memory, as does each of its calls.
     pub fn iter(&self) -> Iter<'_, T>
         ensures rest { iter_rest result ≡ self.now.items }
         ensures bound { length (iter_rest result) < 2 ^ 64 }

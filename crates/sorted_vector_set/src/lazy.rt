@@ -24,8 +24,8 @@ pub(crate) type TwoSets<'a, T> = Sides<Iter<'a, T>, Iter<'a, T>>;
 
 impl<T: Ord> SortedVectorSet<T> {
     /// Returns the items of this set to which no item of `other` is equal, lazily and in ascending
-    /// order. Takes O(1) time, and O(n + m) for all items together, as do the other three. None
-    /// takes memory.
+    /// order. O(1) time, and O(n + m) for all items together, as do the other three. None takes
+    /// memory.
     pub fn difference<'a>(&'a self, other: &'a Self) -> Difference<'a, T>
         ensures own { result.own ≡ self.now.items }
         ensures other { result.other ≡ other.now.items }

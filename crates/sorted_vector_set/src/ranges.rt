@@ -18,7 +18,7 @@ use std::slice::Iter;
 impl<T: Ord> SortedVectorSet<T> {
     /// Returns the items that lie within `low` and `high`, in ascending order and from both ends.
     /// The bounds are in order: the low item is at most the high one, and they aren't equal and
-    /// both excluded. Takes O(log n) time and no memory.
+    /// both excluded. O(log n) time, no memory.
     pub fn range(&self, low: Bound<&T>, high: Bound<&T>) -> Iter<'_, T>
         requires { AreInOrder T.cmp (bound_map (λ x. x.now) low) (bound_map (λ x. x.now) high) }
         ensures rest { iter_rest result ≡ items_within T.cmp (bound_map (λ x. x.now) low.entry)
@@ -35,8 +35,7 @@ impl<T: Ord> SortedVectorSet<T> {
 
     /// Keeps the items below `q`, and returns a set of the others.
     ///
-    /// Where memory is short, the set stays. Takes O(log n) time, and time for the items that
-    /// leave.
+    /// Where memory is short, the set stays. O(log n) time, and time for the items that leave.
     pub fn split_off(&mut self, alloc: Global, q: &T) -> Result<Self, NoMemory>
         ensures below { OnOk result (self.new.items
             ≡ filter (λ x. is_lt (T.cmp x q.now)) self.old.items) }

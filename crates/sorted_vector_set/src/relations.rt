@@ -7,8 +7,8 @@ ghost use Rattle.sorted_iter.specs.Subsets.{are_disjoint, is_within, is_around};
 use crate::set::SortedVectorSet;
 
 impl<T: Ord> SortedVectorSet<T> {
-    /// Returns whether no item has an equal in `other`. Stops at the first two equal items. Takes
-    /// O(n + m) time and no memory.
+    /// Returns whether no item has an equal in `other`. Stops at the first two equal items. O(n +
+    /// m) time, no memory.
     pub fn is_disjoint(&self, other: &Self) -> bool
         ensures { result ≡ are_disjoint T.cmp self.now.items other.now.items }
     {

@@ -8,7 +8,7 @@ use crate::set::SortedVectorSet;
 
 impl<T: Ord> SortedVectorSet<T> {
     /// Calls `f` once on each item in ascending order, and keeps the items at which it returns
-    /// true. Takes O(n) time and no memory.
+    /// true. O(n) time, no memory.
     pub fn retain<F: FnMut(&T) -> bool>(&mut self, mut f: F)
     where
         T: Drop,

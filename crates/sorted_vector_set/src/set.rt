@@ -1,5 +1,5 @@
 //! The set: making one, looking into it, putting items in, and taking them out.
-ghost use Rattle.std.specs.Prelude.{Some, ◌≡◌, ◌≤◌, ◌<◌, ◌+◌, ◌-◌, ◌++◌, ◌==◌, not, [], length, slice_get, slice_set, IsTrue, IsOk, IfOk, IfErr, IfNone, is_ok, if◌then◌else◌};
+ghost use Rattle.std.specs.Prelude.{Some, ◌≡◌, ◌≤◌, ◌<◌, ◌+◌, ◌-◌, ◌++◌, ◌↔◌, not, [], length, slice_get, slice_set, IsTrue, IsOk, IfOk, IfErr, IfNone, is_ok, if◌then◌else◌};
 ghost use Rattle.std.specs.List.{insert as list_insert, remove as list_remove};
 ghost use Rattle.std.specs.List.Sorted.{IsStrictlySortedBy};
 ghost use Rattle.std.specs.Option.{option_copied, option_to_list};
@@ -38,7 +38,7 @@ impl<T: Ord> Model for SortedVectorSet<T> {
 }
 
 impl<T: Ord> SortedVectorSet<T> {
-    /// Returns the empty set. Takes O(1) time and no memory.
+    /// Returns the empty set. O(1) time, no memory.
     pub fn new(alloc: Global) -> Self
         ensures { result.items ≡ [] }
     {
@@ -48,7 +48,7 @@ impl<T: Ord> SortedVectorSet<T> {
     }
 
     /// Returns the empty set with room for `capacity` items. Where memory is short, or so many
-    /// items are more than any memory can hold, it is refused. Takes O(1) time.
+    /// items are more than any memory can hold, it is refused. O(1) time.
     pub fn with_capacity(alloc: Global, capacity: usize) -> Result<Self, NoMemory>
         ensures items { IfOk result (λ s. s.items ≡ []) }
         ensures spare { IfOk result (λ s. capacity ≤ s.spare) }
@@ -57,7 +57,7 @@ impl<T: Ord> SortedVectorSet<T> {
         Ok(SortedVectorSet { items })
     }
 
-    /// Returns the vector of the items, in ascending order. Takes O(1) time and no memory.
+    /// Returns the vector of the items, in ascending order. O(1) time, no memory.
     pub fn into_inner(self) -> Vec<T>
         ensures items { result.items ≡ self.items }
         ensures ascending { IsStrictlySortedBy T.cmp result.items }
@@ -65,7 +65,7 @@ impl<T: Ord> SortedVectorSet<T> {
         self.items
     }
 
-    /// Takes all items out. Their room stays. Takes O(n) time and no memory.
+    /// Takes all items out. Their room stays. O(n) time, no memory.
     pub fn clear(&mut self)
     where
         T: Drop,
@@ -75,29 +75,29 @@ impl<T: Ord> SortedVectorSet<T> {
         self.items.clear();
     }
 
-    /// Returns the number of items. Takes O(1) time and no memory.
+    /// Returns the number of items. O(1) time, no memory.
     pub fn len(&self) -> usize
         ensures { result ≡ length self.now.items }
     {
         self.items.len()
     }
 
-    /// Returns whether there is no item. Takes O(1) time and no memory.
+    /// Returns whether there is no item. O(1) time, no memory.
     pub fn is_empty(&self) -> bool
-        ensures { result ≡ (length self.now.items == 0) }
+        ensures { IsTrue result ↔ (self.now.items ≡ []) }
     {
         self.items.is_empty()
     }
 
-    /// Returns whether an item is equal to `q`. Takes O(log n) time and no memory.
+    /// Returns whether an item is equal to `q`. O(log n) time, no memory.
     pub fn contains(&self, q: &T) -> bool
         ensures { result ≡ has T.cmp self.now.items q.now }
     {
         self.search(q).is_ok()
     }
 
-    /// Returns the item that is equal to `q`, or `None` where there is none. Takes O(log n) time
-    /// and no memory.
+    /// Returns the item that is equal to `q`, or `None` where there is none. O(log n) time, no
+    /// memory.
     pub fn get(&self, q: &T) -> Option<&T>
         ensures { option_copied result ≡ find T.cmp self.now.items q.now }
     {
@@ -107,14 +107,14 @@ impl<T: Ord> SortedVectorSet<T> {
         }
     }
 
-    /// Returns the least item, or `None` where the set is empty. Takes O(1) time and no memory.
+    /// Returns the least item, or `None` where the set is empty. O(1) time, no memory.
     pub fn first(&self) -> Option<&T>
         ensures { option_copied result ≡ slice_get self.now.items 0 }
     {
         self.items.first()
     }
 
-    /// Returns the greatest item, or `None` where the set is empty. Takes O(1) time and no memory.
+    /// Returns the greatest item, or `None` where the set is empty. O(1) time, no memory.
     pub fn last(&self) -> Option<&T>
         ensures { option_copied result ≡ slice_get self.now.items (length self.now.items - 1) }
     {
@@ -125,8 +125,8 @@ impl<T: Ord> SortedVectorSet<T> {
     /// one it puts `value` in and returns `None`.
     ///
     /// Where memory is short, the set stays and `value` comes back. That never happens where an
-    /// equal item is present or the set has spare. Takes O(log n) time, and time for the greater
-    /// items, which move; an item above all others takes O(1) amortised time.
+    /// equal item is present or the set has spare. O(log n) time, and time for the greater items,
+    /// which move; an item above all others takes O(1) amortised time.
     #[inline]
     pub fn replace(&mut self, value: T) -> Result<Option<T>, Refused<T>>
         ensures items { self.new.items ≡ (if is_ok result then set T.cmp self.old.items value else
@@ -169,8 +169,8 @@ impl<T: Ord> SortedVectorSet<T> {
         Ok(old.is_none())
     }
 
-    /// Takes the item that is equal to `value` out, or returns `None` where there is none. Takes
-    /// O(log n) time, and time for the greater items, which move, and no memory.
+    /// Takes the item that is equal to `value` out, or returns `None` where there is none. O(log n)
+    /// time, and time for the greater items, which move, and no memory.
     pub fn take(&mut self, value: &T) -> Option<T>
         ensures items { self.new.items ≡ take_out T.cmp self.old.items value.now }
         ensures taken { result ≡ find T.cmp self.old.items value.now }
@@ -194,8 +194,7 @@ impl<T: Ord> SortedVectorSet<T> {
         self.take(value).is_some()
     }
 
-    /// Takes the greatest item out, or returns `None` where the set is empty. Takes O(1) time and
-    /// no memory.
+    /// Takes the greatest item out, or returns `None` where the set is empty. O(1) time, no memory.
     pub fn pop_last(&mut self) -> Option<T>
         ensures items { self.old.items ≡ self.new.items ++ option_to_list result }
         ensures none { IfNone result (self.old.items ≡ []) }

@@ -9,8 +9,8 @@ use super::{Entry, OccupiedEntry, VacantEntry};
 use crate::map::SortedVectorMap;
 
 impl<K: Ord, V> SortedVectorMap<K, V> {
-    /// Returns the place of `key`: occupied exactly where an equal key is present. Takes O(log n)
-    /// time, or O(1) for a key above all others, and no memory.
+    /// Returns the place of `key`: occupied exactly where an equal key is present. O(log n) time,
+    /// or O(1) for a key above all others, and no memory.
     pub fn entry(&mut self, key: K) -> Entry<'_, K, V>
     where
         K: Drop,
@@ -30,8 +30,7 @@ impl<K: Ord, V> SortedVectorMap<K, V> {
         }
     }
 
-    /// Returns the place of the first pair, or `None` where the map is empty. Takes O(1) time and
-    /// no memory.
+    /// Returns the place of the first pair, or `None` where the map is empty. O(1) time, no memory.
     pub fn first_entry(&mut self) -> Option<OccupiedEntry<'_, K, V>>
         ensures* map { sem 𝓛 (lends_or_stays K.row V.row K.Ord self.entry result) }
         ensures none { IfNone result (self.old.pairs ≡ []) }
@@ -41,8 +40,7 @@ impl<K: Ord, V> SortedVectorMap<K, V> {
         self.entry_at(0)
     }
 
-    /// Returns the place of the last pair, or `None` where the map is empty. Takes O(1) time and no
-    /// memory.
+    /// Returns the place of the last pair, or `None` where the map is empty. O(1) time, no memory.
     pub fn last_entry(&mut self) -> Option<OccupiedEntry<'_, K, V>>
         ensures* map { sem 𝓛 (lends_or_stays K.row V.row K.Ord self.entry result) }
         ensures none { IfNone result (self.old.pairs ≡ []) }

@@ -17,8 +17,7 @@ pub struct OccupiedEntry<'a, K: Ord, V> {
 impl<'a, K: Ord, V> OccupiedEntry<'a, K, V> {
     ghost use Rattle.sorted_vector_map.specs.Entry.{Occupied, home, HasKey, stored, after_writing, after_removal, IsSamePlace, writes_through, writes_into};
 
-    /// Returns the stored key. Takes O(1) time and no memory, as do the other calls that take
-    /// nothing out.
+    /// Returns the stored key. O(1) time, no memory, as do the other calls that take nothing out.
     pub fn key(&self) -> &K
         ensures { HasKey (Occupied self.now) result.now }
     {

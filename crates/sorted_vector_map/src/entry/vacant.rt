@@ -18,14 +18,14 @@ pub struct VacantEntry<'a, K: Ord, V> {
 impl<'a, K: Ord, V> VacantEntry<'a, K, V> {
     ghost use Rattle.sorted_vector_map.specs.Entry.{Vacant, home, HasKey, writes_through_if_ok};
 
-    /// Returns the given key. Takes O(1) time and no memory.
+    /// Returns the given key. O(1) time, no memory.
     pub fn key(&self) -> &K
         ensures { HasKey (Vacant self.now) result.now }
     {
         &self.key
     }
 
-    /// Returns the given key, by value. The map stays. Takes O(1) time and no memory.
+    /// Returns the given key, by value. The map stays. O(1) time, no memory.
     pub fn into_key(self) -> K
         ensures key { HasKey (Vacant self.entry) result }
         ensures map { self.exit.0.now ≡ (home (Vacant self.entry)).now }

@@ -10,8 +10,7 @@ use std::slice;
 
 /// The pairs of a map that are still to come.
 ///
-/// Gives them from both ends, with their exact number as its hint. Each call takes O(1) time and no
-/// memory.
+/// Gives them from both ends, with their exact number as its hint. Each call O(1) time, no memory.
 #[derive(Drop)]
 pub struct Iter<'map, K, V> {
     pairs: slice::Iter<'map, (K, V)>,
@@ -74,8 +73,7 @@ impl<'map, K, V> ExactSizeIterator for Iter<'map, K, V> {
 
 /// The keys of a map that are still to come.
 ///
-/// Gives them from both ends, with their exact number as its hint. Each call takes O(1) time and no
-/// memory.
+/// Gives them from both ends, with their exact number as its hint. Each call O(1) time, no memory.
 #[derive(Drop)]
 pub struct Keys<'map, K, V> {
     pairs: Iter<'map, K, V>,
@@ -127,8 +125,7 @@ impl<'map, K, V> DoubleEndedIterator for Keys<'map, K, V> {
 
 /// The values of a map that are still to come.
 ///
-/// Gives them from both ends, with their exact number as its hint. Each call takes O(1) time and no
-/// memory.
+/// Gives them from both ends, with their exact number as its hint. Each call O(1) time, no memory.
 #[derive(Drop)]
 pub struct Values<'map, K, V> {
     pairs: Iter<'map, K, V>,

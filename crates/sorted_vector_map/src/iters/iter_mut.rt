@@ -21,7 +21,7 @@ use std::ops::Bound;
 
 impl<K: Ord, V> SortedVectorMap<K, V> {
     /// Returns the pairs in the order of their keys, with their values for writing. The keys, their
-    /// order and their number stay. Takes O(1) time and no memory.
+    /// order and their number stay. O(1) time, no memory.
     ///
     /// ```ignore
     /// for (_, price) in prices.iter_mut() {
@@ -37,7 +37,7 @@ impl<K: Ord, V> SortedVectorMap<K, V> {
         IterMut::new(slots, lent)
     }
 
-    /// Returns the values in the order of their keys, for writing. Takes O(1) time and no memory.
+    /// Returns the values in the order of their keys, for writing. O(1) time, no memory.
     pub fn values_mut(&mut self) -> ValuesMut<'_, K, V>
         ensures* writes_back { sem 𝓛 (lends_values K.row V.row K.Ord self.entry result.loan) }
         ensures values { ComesForWriting deref_mut (map (λ p. p.1) self.old.pairs) result.rest }
@@ -49,7 +49,7 @@ impl<K: Ord, V> SortedVectorMap<K, V> {
 
     /// Returns the pairs whose keys lie within `low` and `high`, with their values for writing. The
     /// bounds are in order: the low key is at most the high one, and they aren't equal and both
-    /// excluded. Takes O(log n) time and no memory.
+    /// excluded. O(log n) time, no memory.
     pub fn range_mut(&mut self, low: Bound<&K>, high: Bound<&K>) -> IterMut<'_, K, V>
         requires { AreInOrder K.cmp (bound_map (λ k. k.now) low) (bound_map (λ k. k.now) high) }
         ensures* writes_back { sem 𝓛 (lends_values K.row V.row K.Ord self.entry result.loan) }
@@ -85,8 +85,7 @@ impl<'map, K: Ord, V> IntoIterator for &'map mut SortedVectorMap<K, V> {
 
 /// The pairs of a map that are still to come, with their values for writing.
 ///
-/// Gives them from both ends, with their exact number as its hint. Each call takes O(1) time and no
-/// memory.
+/// Gives them from both ends, with their exact number as its hint. Each call O(1) time, no memory.
 #[derive(Drop)]
 pub struct IterMut<'map, K, V> {
     slots: &'map [Slot<K, V>],

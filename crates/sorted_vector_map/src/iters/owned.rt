@@ -8,8 +8,7 @@ use std::vec;
 
 /// The keys that are still to come of a map that is used up.
 ///
-/// Gives them from both ends, with their exact number as its hint. Each call takes O(1) time and no
-/// memory.
+/// Gives them from both ends, with their exact number as its hint. Each call O(1) time, no memory.
 #[derive(Drop)]
 pub struct IntoKeys<K, V> {
     pairs: vec::IntoIter<(K, V)>,
@@ -66,8 +65,7 @@ impl<K: Drop, V: Drop> DoubleEndedIterator for IntoKeys<K, V> {
 
 /// The values that are still to come of a map that is used up.
 ///
-/// Gives them from both ends, with their exact number as its hint. Each call takes O(1) time and no
-/// memory.
+/// Gives them from both ends, with their exact number as its hint. Each call O(1) time, no memory.
 #[derive(Drop)]
 pub struct IntoValues<K, V> {
     pairs: vec::IntoIter<(K, V)>,

@@ -10,8 +10,7 @@ use std::marker::Model;
 
 /// The values of a map that are still to come, for writing.
 ///
-/// Gives them from both ends, with their exact number as its hint. Each call takes O(1) time and no
-/// memory.
+/// Gives them from both ends, with their exact number as its hint. Each call O(1) time, no memory.
 #[derive(Drop)]
 pub struct ValuesMut<'map, K, V> {
     pub(crate) pairs: IterMut<'map, K, V>,

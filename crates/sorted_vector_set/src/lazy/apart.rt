@@ -12,8 +12,8 @@ use std::marker::Model;
 
 /// The items to come of either set to which no item of the other is equal, ascending.
 ///
-/// Made by [`symmetric_difference`](crate::SortedVectorSet::symmetric_difference). An item takes
-/// O(k) time for the k items that are passed over for it, and no memory.
+/// Made by [`symmetric_difference`](crate::SortedVectorSet::symmetric_difference). An item O(k)
+/// time for the k items that are passed over for it, no memory.
 #[derive(Drop)]
 #[must_use = "a set operation is lazy and does nothing until it is asked"]
 pub struct SymmetricDifference<'a, T: Ord> {

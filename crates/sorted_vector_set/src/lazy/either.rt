@@ -14,8 +14,8 @@ use std::marker::Model;
 /// The items of either set that are to come, ascending and each once; of two equal items that of
 /// the other set.
 ///
-/// Made by [`union`](crate::SortedVectorSet::union). An item takes O(k) time for the k items that
-/// are passed over for it, and no memory.
+/// Made by [`union`](crate::SortedVectorSet::union). An item O(k) time for the k items that are
+/// passed over for it, no memory.
 #[derive(Drop)]
 #[must_use = "a set operation is lazy and does nothing until it is asked"]
 pub struct Union<'a, T: Ord> {

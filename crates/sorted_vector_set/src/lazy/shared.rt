@@ -13,8 +13,8 @@ use std::marker::Model;
 
 /// The items to come of a set to which an item of the other set is equal, ascending.
 ///
-/// Made by [`intersection`](crate::SortedVectorSet::intersection). An item takes O(k) time for the
-/// k items that are passed over for it, and no memory.
+/// Made by [`intersection`](crate::SortedVectorSet::intersection). An item O(k) time for the k
+/// items that are passed over for it, no memory.
 #[derive(Drop)]
 #[must_use = "a set operation is lazy and does nothing until it is asked"]
 pub struct Intersection<'a, T: Ord> {
