@@ -119,7 +119,7 @@ impl<T: Element> RangeSet<T> {
             .is_ok()
     }
 
-    /// The ranges that end at `start` or behind it. Takes O(log n) time for n ranges, and no memory.
+    /// The ranges that end at `start` or behind it. Takes O(log n) time for n ranges and no memory.
     pub(crate) fn ranges_from(&self, start: T) -> &[Range<T>]
         ensures canonical { IsCanonical T.numbers.least T.numbers.greatest
             (all_in_numbers T.numbers result.now) }
