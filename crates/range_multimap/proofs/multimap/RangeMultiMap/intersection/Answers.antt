@@ -1,4 +1,3 @@
-use Rattle.std.proofs.Common.{ap}
 use Rattle.range_multimap.proofs.multimap.RangeMultiMap.intersection.Goals as goal
 
 pub returns : goal.returns
