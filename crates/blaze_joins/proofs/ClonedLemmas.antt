@@ -5,7 +5,7 @@ use Rattle.std.specs.Cmp.{IsEquivalence}
 use Rattle.std.specs.Ordering.{int_eq}
 use Rattle.std.proofs.lemmas.Bool.Decides.{Decides-int_eq}
 use Rattle.number_line.specs.Valued.{StopsBefore, IsCanonicalMap, same_valued, same_list}
-use Rattle.blaze_joins.specs.Cloned.{IsPairClone, ArePairClones}
+use Rattle.number_line.specs.Parts.{IsPairClone, ArePairClones}
 
 module _ {V : Type 0} (same : V → V → Bool) (is_clone : V → V → Type 0) (equal : (a b : V) → is_clone a b → same b a ≡ true) where
   pair_same : (p q : (ℤ × ℤ) × V) → IsPairClone is_clone p q → same_valued same q p ≡ true

@@ -5,4 +5,3 @@ pub mod PieceView
 pub mod Joins
 pub mod Laws
 pub mod SideView
-pub mod Cloned

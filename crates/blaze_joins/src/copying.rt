@@ -2,8 +2,9 @@
 ghost use Rattle.std.specs.Prelude.{◌≡◌, ℤ, ◌∷◌, [], IfOk, is_some, true};
 ghost use Rattle.number_line.specs.Pieces.{IsJoined};
 ghost use Rattle.number_line.specs.Valued.{value_at, IsCanonicalMap, same_list};
-ghost use Rattle.range_map.specs.Valued.{pairs_in_numbers, IsMap, AreValuedRanges, ClonesAreEqual};
-ghost use Rattle.blaze_joins.specs.Cloned.{ArePairClones};
+ghost use Rattle.ordered_lists.specs.Taken.{ClonesAreEqual};
+ghost use Rattle.range_map.specs.Valued.{pairs_in_numbers, IsMap, AreValuedRanges};
+ghost use Rattle.number_line.specs.Parts.{ArePairClones};
 ghost use Rattle.blaze_joins.specs.Joins.{CalledAtValue};
 
 use crate::map::RangeMapBlaze;

@@ -7,7 +7,7 @@ ghost use Rattle.number_line.specs.Valued.{value_at, IsCanonicalMap, HasValues};
 ghost use Rattle.range_map.specs.Range.{in_numbers};
 ghost use Rattle.range_map.specs.Sweep.{EndBelow, IsLabelled};
 ghost use Rattle.blaze_joins.specs.Filled.{IsOptionClone};
-ghost use Rattle.range_map.specs.Valued.{ClonesAreEqual};
+ghost use Rattle.ordered_lists.specs.Taken.{ClonesAreEqual};
 
 use crate::map::RangeMapBlaze;
 use element_core::{Element, NoMemory, is_below};

@@ -18,10 +18,6 @@ never_fall (x ∷ rest) = never_fall_from x rest
 abbrev pub is_among : List ℤ → ℤ → Bool
 is_among numbers x = list_any (λ n. int_eq n x) numbers
 
--- the ranges of one number each
-abbrev pub single_ranges : List ℤ → List (ℤ × ℤ)
-single_ranges numbers = map (λ n. (n, n)) numbers
-
 -- the set is canonical, and holds just the numbers from lo to hi that aren't among the given ones
 pub record IsAllBut (lo hi : ℤ) (numbers : List ℤ) (set : List (ℤ × ℤ)) : Type 0 where
   pub canonical : IsCanonical lo hi set

@@ -15,3 +15,4 @@ pub mod ChangeLemmas
 pub mod KeyLemmas
 pub mod PartLemmas
 pub mod LeftOutLemmas
+pub mod TakenLemmas

@@ -17,10 +17,6 @@ abbrev pub AreValuedRanges : {T V : Type 0} → Numbering T → List ((T × T) �
 AreValuedRanges numbers [] = Unit {0}
 AreValuedRanges numbers (pair ∷ rest) = IsRange numbers pair.0 × AreValuedRanges numbers rest
 
--- a clone of a value is equal to it
-abbrev pub ClonesAreEqual : {V : Type 0} → (V → V → Type 0) → (V → V → Bool) → Type 0
-ClonesAreEqual {V} is_clone same = (a b : V) → is_clone a b → same b a ≡ true
-
 -- the list of pairs that a map keeps; `same` compares values
 pub record IsMap {T V : Type 0} (numbers : Numbering T) (same : V → V → Bool) (pairs : List ((T × T) × V)) : Type 0 where
   pub are_ranges : AreValuedRanges numbers pairs

@@ -1,7 +1,7 @@
 //! The values of the ranges that hold a key.
 ghost use Rattle.std.specs.Prelude.{◌≡◌, IfOk, true};
 ghost use Rattle.std.specs.Cmp.Lexicographic.{pointwise};
-ghost use Rattle.range_map.specs.Valued.{ClonesAreEqual};
+ghost use Rattle.ordered_lists.specs.Taken.{ClonesAreEqual};
 
 use element_core::NoMemory;
 use std::alloc::Global;

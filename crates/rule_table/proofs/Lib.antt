@@ -8,7 +8,6 @@ pub mod HolderLemmas
 pub mod HoldsLemmas
 pub mod LengthLemmas
 pub mod MarkLemmas
-pub mod TakenLemmas
 pub mod TilingLemmas
 pub mod TrailingLemmas
 pub mod WinnerLemmas

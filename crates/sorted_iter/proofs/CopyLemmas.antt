@@ -19,7 +19,8 @@ use Rattle.sorted_iter.specs.LookaheadLemmas.{reads-ended, reads-drains, passes-
 use Rattle.sorted_iter.specs.TwoSides.{StepsTwo, sides_can, sides_ascend}
 use Rattle.sorted_iter.specs.TwoSidesLemmas.{Through, through-always, two-always}
 use Rattle.sorted_iter.proofs.RefLists.{all_runs}
-use Rattle.sorted_iter.specs.Copies.{GoesAlike, ClonesGoAlike, ClonesAreEqual, IsHeadClone, IsAheadClone, IsCopy}
+use Rattle.ordered_lists.specs.Taken.{ClonesAreEqual}
+use Rattle.sorted_iter.specs.Copies.{GoesAlike, ClonesGoAlike, IsHeadClone, IsAheadClone, IsCopy}
 
 -- lists of equal items
 module _ {A : Type 0} (R : A → A → Type 0) (itself : (x : A) → R x x) where

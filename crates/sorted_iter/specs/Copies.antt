@@ -24,10 +24,6 @@ pub record ClonesGoAlike {S A : Type 0} (clones : S → S → Type 0) (can : S �
     (steps : S → Option A → S → Type 0) : Type 0 where
   pub alike : (s t : S) → clones s t → GoesAlike can left steps s t
 
--- each clone of an item is equal to the item
-abbrev pub ClonesAreEqual : {A : Type 0} → (A → A → Type 0) → (A → A → Bool) → Type 0
-ClonesAreEqual {A} clones eq = (x y : A) → clones x y → eq y x ≡ true
-
 -- what is held in k is a clone of what is held in h
 abbrev pub IsHeadClone : {A : Type 0} → (A → A → Type 0) → Head A → Head A → Type 0
 IsHeadClone clones Unread k = k ≡ Unread

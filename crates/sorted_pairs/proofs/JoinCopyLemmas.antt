@@ -12,7 +12,8 @@ use Rattle.ordered_lists.specs.Lists.{by_key}
 use Rattle.ordered_lists.specs.Walks.{keep}
 use Rattle.ordered_lists.proofs.PairLemmas.{by_key_total}
 use Rattle.sorted_iter.specs.declared.sides.Sides.{Sides}
-use Rattle.sorted_iter.specs.Copies.{ClonesGoAlike, ClonesAreEqual, IsAheadClone}
+use Rattle.ordered_lists.specs.Taken.{ClonesAreEqual}
+use Rattle.sorted_iter.specs.Copies.{ClonesGoAlike, IsAheadClone}
 use Rattle.sorted_iter.specs.TwoSides.{StepsTwo}
 use Rattle.sorted_iter.specs.TwoSidesLemmas.{Through, through-always, two-always}
 use Rattle.sorted_iter.proofs.CopyLemmas.{ended-clone, finite-clone, will-clone, ascends-clone, like-of, like_both}

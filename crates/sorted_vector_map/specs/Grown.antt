@@ -9,7 +9,3 @@ abbrev pub after_extending : {K V : Type 0} → (K → K → Ordering) → List 
 after_extending cmp ps [] = ps
 after_extending cmp ps (p ∷ []) = put cmp ps p.0 p.1
 after_extending cmp ps (p ∷ q ∷ new) = sets (by_key cmp) ps (p ∷ q ∷ new)
-
--- what `into_iter` makes of iter gives exactly xs, and ends
-abbrev pub GivesAll : {I S A : Type 0} → (I → S → Type 0) → (S → Option A → S → Type 0) → I → List A → Type 0
-GivesAll {S = S} becomes steps iter xs = (it : S) × becomes iter it × Drains steps it xs

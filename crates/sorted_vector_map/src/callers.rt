@@ -1,6 +1,6 @@
 //! What a caller does next: a key that was put in is read, a clone is equal, and keys stay.
 ghost use Rattle.std.specs.Prelude.{◌≡◌, true, length, map, IfOk};
-ghost use Rattle.sorted_vector_map.specs.Cloned.{EachCloneIsEqual};
+ghost use Rattle.ordered_lists.specs.Taken.{ClonesAreEqual};
 
 use crate::laws::{clones_are_equal, refilled_keeps_keys, refilled_keeps_length};
 use crate::{Entry, NoMemory, Refused, SortedVectorMap};
@@ -67,8 +67,8 @@ pub(crate) fn clone_is_equal<K: Ord + Clone + Drop, V: PartialEq + Clone + Drop>
     alloc: Global,
     stock: &SortedVectorMap<K, V>,
 ) -> Result<bool, NoMemory>
-    requires keys { EachCloneIsEqual K.is_clone K.eq }
-    requires values { EachCloneIsEqual V.is_clone V.eq }
+    requires keys { ClonesAreEqual K.is_clone K.eq }
+    requires values { ClonesAreEqual V.is_clone V.eq }
     ensures { IfOk result (λ equal. equal ≡ true) }
 {
     clones_are_equal::<K, V>();

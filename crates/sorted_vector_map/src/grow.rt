@@ -6,8 +6,9 @@ ghost use Rattle.std.specs.List.Sorted.{IsPermutation, IsSorted, IsStrictlySorte
 ghost use Rattle.std.specs.Map.Iter.{deref_pair};
 ghost use Rattle.std.specs.Vec.{vec_len};
 ghost use Rattle.ordered_lists.specs.Lists.{by_key, to_key, has, sets};
-ghost use Rattle.sorted_vector_map.specs.Cloned.{AreClones, EachCloneIsEqual};
-ghost use Rattle.sorted_vector_map.specs.Grown.{GivesAll, after_extending};
+ghost use Rattle.ordered_lists.specs.Taken.{ClonesAreEqual, GivesAll};
+ghost use Rattle.sorted_vector_map.specs.Cloned.{AreClones};
+ghost use Rattle.sorted_vector_map.specs.Grown.{after_extending};
 
 use crate::map::SortedVectorMap;
 use crate::merge::{keep_last, merge, sort_by_key};
@@ -167,7 +168,7 @@ impl<K: Ord, V> SortedVectorMap<K, V> {
     where
         K: Clone,
         V: Clone,
-        requires { EachCloneIsEqual K.is_clone K.eq }
+        requires { ClonesAreEqual K.is_clone K.eq }
         ensures { IfOk result (λ m. AreClones K.is_clone V.is_clone self.now.pairs m.pairs) }
     {
         let mut items = Vec::with_capacity(alloc, self.items.len())?;

@@ -1,5 +1,5 @@
 //! Laws of the definitions. Each function does nothing: its contract is the law.
-ghost use Rattle.sorted_vector_map.specs.Cloned.{ClonesAreEqual};
+ghost use Rattle.sorted_vector_map.specs.Cloned.{ClonesOfPairsAreEqual};
 ghost use Rattle.sorted_vector_map.specs.Refilled.{RefilledKeepsKeys, RefilledKeepsLength};
 
 /// Whatever values are written through an iterator that lends them, the map keeps its keys, in
@@ -16,5 +16,5 @@ pub fn refilled_keeps_length<K: Ord, V>()
 
 /// Where clones are equal to what was cloned, keys and values, a map of clones is equal to the map.
 pub fn clones_are_equal<K: Ord + Clone, V: PartialEq + Clone>()
-    ensures { ClonesAreEqual K.is_clone V.is_clone K.eq V.eq }
+    ensures { ClonesOfPairsAreEqual K.is_clone V.is_clone K.eq V.eq }
 {}

@@ -2,5 +2,3 @@ pub mod Content
 pub mod Calls
 pub mod Hints
 pub mod Lazy
-pub mod Cloned
-pub mod Grown

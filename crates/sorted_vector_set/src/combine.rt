@@ -6,7 +6,7 @@ ghost use Rattle.std.specs.List.{AllZip};
 ghost use Rattle.std.specs.List.Sorted.{IsStrictlySortedBy};
 ghost use Rattle.std.specs.Map.Iter.{deref};
 ghost use Rattle.ordered_lists.specs.Lists.{union, intersection, difference, symmetric_difference};
-ghost use Rattle.sorted_vector_set.specs.Cloned.{EachCloneIsEqual};
+ghost use Rattle.ordered_lists.specs.Taken.{ClonesAreEqual};
 
 use crate::set::SortedVectorSet;
 use element_core::NoMemory;
@@ -20,7 +20,7 @@ impl<T: Ord> SortedVectorSet<T> {
     pub fn bitand(&self, alloc: Global, rhs: &Self) -> Result<Self, NoMemory>
     where
         T: Clone,
-        requires { EachCloneIsEqual T.is_clone T.eq }
+        requires { ClonesAreEqual T.is_clone T.eq }
         ensures { IfOk result (λ s. AllZip T.is_clone
             (intersection T.cmp self.now.items rhs.now.items) s.items) }
     {
@@ -32,7 +32,7 @@ impl<T: Ord> SortedVectorSet<T> {
     pub fn bitor(&self, alloc: Global, rhs: &Self) -> Result<Self, NoMemory>
     where
         T: Clone,
-        requires { EachCloneIsEqual T.is_clone T.eq }
+        requires { ClonesAreEqual T.is_clone T.eq }
         ensures { IfOk result (λ s. AllZip T.is_clone (union T.cmp rhs.now.items self.now.items)
             s.items) }
     {
@@ -44,7 +44,7 @@ impl<T: Ord> SortedVectorSet<T> {
     pub fn sub(&self, alloc: Global, rhs: &Self) -> Result<Self, NoMemory>
     where
         T: Clone,
-        requires { EachCloneIsEqual T.is_clone T.eq }
+        requires { ClonesAreEqual T.is_clone T.eq }
         ensures { IfOk result (λ s. AllZip T.is_clone
             (difference T.cmp self.now.items rhs.now.items) s.items) }
     {
@@ -56,7 +56,7 @@ impl<T: Ord> SortedVectorSet<T> {
     pub fn bitxor(&self, alloc: Global, rhs: &Self) -> Result<Self, NoMemory>
     where
         T: Clone,
-        requires { EachCloneIsEqual T.is_clone T.eq }
+        requires { ClonesAreEqual T.is_clone T.eq }
         ensures { IfOk result (λ s. AllZip T.is_clone
             (symmetric_difference T.cmp self.now.items rhs.now.items) s.items) }
     {
@@ -72,7 +72,7 @@ fn clones_of<'a, T: Ord + Clone + 'a, I: Iterator<Item = &'a T>>(
 ) -> Result<SortedVectorSet<T>, NoMemory>
     requires can { I.can_next items }
     requires finite { IsFinite (I.remaining items) }
-    requires clones { EachCloneIsEqual T.is_clone T.eq }
+    requires clones { ClonesAreEqual T.is_clone T.eq }
     requires ascending { (shown : List (Bor T)) → Drains I.next_gives items shown
         → IsStrictlySortedBy T.cmp (map deref shown) }
     ensures { IfOk result (λ s. (shown : List (Bor T)) × Drains I.next_gives items shown

@@ -8,8 +8,7 @@ ghost use Rattle.std.specs.List.Sorted.{IsPermutation, IsSorted, IsStrictlySorte
 ghost use Rattle.std.specs.Map.Iter.{deref};
 ghost use Rattle.std.specs.Vec.{vec_len};
 ghost use Rattle.ordered_lists.specs.Lists.{has, sets};
-ghost use Rattle.sorted_vector_set.specs.Cloned.{EachCloneIsEqual};
-ghost use Rattle.sorted_vector_set.specs.Grown.{GivesAll};
+ghost use Rattle.ordered_lists.specs.Taken.{ClonesAreEqual, GivesAll};
 
 use crate::merge::{keep_last, merge};
 use crate::set::SortedVectorSet;
@@ -160,7 +159,7 @@ impl<T: Ord> SortedVectorSet<T> {
     pub fn try_clone(&self, alloc: Global) -> Result<Self, NoMemory>
     where
         T: Clone,
-        requires { EachCloneIsEqual T.is_clone T.eq }
+        requires { ClonesAreEqual T.is_clone T.eq }
         ensures clones { IfOk result (λ s. AllZip T.is_clone self.now.items s.items) }
         ensures equal { IfOk result (λ s. pointwise T.eq s.items self.now.items ≡ true) }
     {

@@ -1,6 +1,7 @@
 //! Copies of maps.
 ghost use Rattle.std.specs.Prelude.{◌≡◌, IfOk, true};
 ghost use Rattle.number_line.specs.Valued.{same_list, IsCanonicalMap};
+ghost use Rattle.ordered_lists.specs.Taken.{ClonesAreEqual};
 ghost use Rattle.range_map.specs.Valued.{pairs_in_numbers, AreValuedRanges};
 
 use crate::map::RangeMap;
@@ -13,7 +14,7 @@ fn clones_of_pairs<T: Element, V: Eq + Clone + Drop>(
     alloc: Global,
     pairs: &[(Range<T>, V)],
 ) -> Result<Vec<(Range<T>, V)>, NoMemory>
-    requires { (a b : V) → V.is_clone a b → V.eq b a ≡ true }
+    requires { ClonesAreEqual V.is_clone V.eq }
     ensures are_ranges { IfOk result (λ copy. AreValuedRanges T.numbers copy.items) }
     ensures equal { IfOk result (λ copy. same_list V.eq (pairs_in_numbers T.numbers copy.items)
         (pairs_in_numbers T.numbers pairs.now) ≡ true) }
@@ -33,7 +34,7 @@ impl<T: Element, V: Eq> RangeMap<T, V> {
     pub fn try_clone(&self, alloc: Global) -> Result<Self, NoMemory>
     where
         V: Clone + Drop,
-        requires { (a b : V) → V.is_clone a b → V.eq b a ≡ true }
+        requires { ClonesAreEqual V.is_clone V.eq }
         ensures canonical { IfOk result (IsCanonicalMap V.eq T.numbers.least T.numbers.greatest) }
         ensures equal { IfOk result (λ copy. same_list V.eq copy self.now ≡ true) }
     {

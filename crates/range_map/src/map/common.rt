@@ -2,7 +2,7 @@
 ghost use Rattle.std.specs.Prelude.{ℤ, IfOk};
 ghost use Rattle.number_line.specs.Parts.{parts_of_pairs, value_within, ArePairClones};
 ghost use Rattle.number_line.specs.Valued.{IsCanonicalMap, HasValues};
-ghost use Rattle.range_map.specs.Valued.{ClonesAreEqual};
+ghost use Rattle.ordered_lists.specs.Taken.{ClonesAreEqual};
 
 use crate::map::RangeMap;
 use crate::pairs::parts_in_set;

@@ -3,7 +3,7 @@ use Rattle.std.proofs.lemmas.Grind.{common_steps}
 use Rattle.range_map.specs.Valued.{pairs_in_numbers, pair_in_numbers}
 use Rattle.range_map.proofs.DividedLemmas.{valued-push}
 use Rattle.range_map.proofs.GrowthLemmas.{in_numbers-push}
-use Rattle.blaze_joins.specs.Cloned.{IsPairClone}
+use Rattle.number_line.specs.Parts.{IsPairClone}
 use Rattle.number_line.proofs.ZippedLemmas.{zipped_start, zipped_step, zipped_end}
 use Rattle.blaze_joins.proofs.copying.clones_of_pairs.Goals as goal
 

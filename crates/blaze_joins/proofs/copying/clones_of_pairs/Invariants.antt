@@ -1,6 +1,6 @@
 use Rattle.std.proofs.Common.{drop}
 use Rattle.range_map.specs.Valued.{pairs_in_numbers, AreValuedRanges}
-use Rattle.blaze_joins.specs.Cloned.{IsPairClone}
+use Rattle.number_line.specs.Parts.{IsPairClone}
 use Rattle.number_line.proofs.ZippedLemmas.{IsZipped}
 use Rattle.blaze_joins.proofs.copying.clones_of_pairs.Given as goal
 

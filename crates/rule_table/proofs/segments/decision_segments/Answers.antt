@@ -5,7 +5,7 @@ use Rattle.element_core.specs.Numberings.{unsigned}
 use Rattle.number_line.specs.Valued.{HasValues}
 use Rattle.blaze_joins.specs.LastValue.{last_value_at}
 use Rattle.range_map.specs.Valued.{pairs_in_numbers}
-use Rattle.rule_table.proofs.TakenLemmas.{taken_whole}
+use Rattle.range_map.proofs.TakenLemmas.{taken_whole}
 use Rattle.rule_table.specs.Rules.{rules_in_numbers}
 use Rattle.rule_table.specs.Decisions.{same_decision}
 use Rattle.rule_table.specs.declared.rule.Decision.{Decision}

@@ -2,7 +2,7 @@ use Rattle.std.proofs.Common.{rules, ◌≡◌, ◌∙◌, ap, length}
 use Rattle.std.specs.Vec.Iter.{into_iter_len}
 use Rattle.element_core.specs.Numberings.{unsigned}
 use Rattle.range_map.specs.Valued.{pairs_in_numbers}
-use Rattle.rule_table.proofs.TakenLemmas.{taken_whole}
+use Rattle.range_map.proofs.TakenLemmas.{taken_whole}
 use Rattle.rule_table.specs.Rules.{rules_in_numbers}
 use Rattle.rule_table.proofs.WinnerLemmas.{are_winners}
 use Rattle.rule_table.proofs.table.winners_of.Goals as goal

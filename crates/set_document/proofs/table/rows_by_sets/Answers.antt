@@ -1,7 +1,7 @@
 use Rattle.std.proofs.Common.{rules, ◌≡◌, ◌∙◌, length}
 use Rattle.std.specs.Prelude.{ℤ}
 use Rattle.std.specs.Vec.Iter.{into_iter_len}
-use Rattle.range_multimap.proofs.GroupLemmas.{taken_whole}
+use Rattle.range_map.proofs.TakenLemmas.{taken_whole}
 use Rattle.set_document.specs.Lines.{lines_of}
 use Rattle.set_document.specs.Numbers.{least, greatest}
 use Rattle.set_document.specs.Table.{names_held}
