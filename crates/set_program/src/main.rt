@@ -14,6 +14,8 @@ mod fault_tests;
 pub mod program;
 mod reading;
 #[cfg(test)]
+mod rules_tests;
+#[cfg(test)]
 mod run_tests;
 #[cfg(test)]
 mod sample_tests;
