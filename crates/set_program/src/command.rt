@@ -49,9 +49,9 @@ fn named_document(word: &[u8]) -> Option<Document>
     }
 }
 
-/// What the words ask for: no word for the answer of named sets, `rules` for that of address rules,
-/// `sample` and a decimal from 1 to 1000 for the counts of a sample. `None` where they are anything
-/// else. Takes no memory.
+/// Returns what the words ask for: no word for the answer of named sets, `rules` alone for that of
+/// address rules, `sample` and a decimal from 1 to 1000 for the counts of a sample. `None` where
+/// they are anything else. O(n) for words of n bytes, takes no memory.
 pub fn read_command(words: &[Argument]) -> Option<Command>
     ensures { AskFor words.now result }
 {

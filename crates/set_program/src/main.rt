@@ -5,6 +5,8 @@
 
 mod answering;
 pub mod arguments;
+#[cfg(test)]
+mod callers;
 pub mod command;
 pub mod devices;
 #[cfg(test)]

@@ -14,6 +14,15 @@ const OFFICE_ANSWER: &str = "0.0.0.0-9.255.255.255 none\n10.0.0.0-10.0.0.4 allow
     10.0.0.5-10.0.0.5 deny\n10.0.0.6-10.0.0.9 allow\n10.0.0.10-255.255.255.255 none\n\
     block 10.0.0.0/30\nblock 10.0.0.4/32\nblock 10.0.0.6/31\nblock 10.0.0.8/31\ndead 3\n";
 
+const NETWORK: &str =
+    "allow 192.168.1.0/24\nallow 192.168.1.3\ndeny 192.168.1.0/28\nallow 192.168.1.1\n";
+
+const NETWORK_ANSWER: &str = "0.0.0.0-192.168.0.255 none\n192.168.1.0-192.168.1.0 deny\n\
+    192.168.1.1-192.168.1.1 allow\n192.168.1.2-192.168.1.15 deny\n\
+    192.168.1.16-192.168.1.255 allow\n192.168.2.0-255.255.255.255 none\n\
+    block 192.168.1.1/32\nblock 192.168.1.16/28\nblock 192.168.1.32/27\n\
+    block 192.168.1.64/26\nblock 192.168.1.128/25\ndead 2\n";
+
 #[test]
 fn rules_are_answered(rt: HostRuntime) -> Result<(), Fail> {
     let alloc = rt.alloc();
@@ -22,6 +31,7 @@ fn rules_are_answered(rt: HostRuntime) -> Result<(), Fail> {
     let reversed = Status::RuleFault(RuleError::ReversedRule { line: 1 });
     let table = [
         (OFFICE, OFFICE_ANSWER, Status::Done, 0),
+        (NETWORK, NETWORK_ANSWER, Status::Done, 0),
         ("", "0.0.0.0-255.255.255.255 none\n", Status::Done, 0),
         ("allow 10.0.0.1/31\n", "line 1: bad rule\n", bad, 7),
         ("a: 1\n", "line 1: bad rule\n", bad, 7),
