@@ -1,13 +1,9 @@
 -- How a run ends: what the source and the sink show before it and after it, one record for each status.
-use Rattle.std.specs.Prelude.{◌≡◌, ◌+◌, ◌<◌, ◌≤◌, ℕ, Bool, true, List, length, IfSome, Option, Some}
+use Rattle.std.specs.Prelude.{◌≡◌, ◌+◌, ◌<◌, ◌≤◌, ℕ, Bool, true, List, length, IfSome, Option, None, Some}
 use Rattle.std.specs.Io.KnownBytes.{Appends}
 use Rattle.std.specs.Option.{option_map}
-use Rattle.set_document.specs.Answer.{answer}
-use Rattle.set_document.specs.FaultText.{fault_line, text_of}
-use Rattle.set_document.specs.Faults.{first_fault, IsWellFormed}
-use Rattle.set_document.specs.Sample.{summary}
-use Rattle.set_document.specs.declared.fault.AlgebraError.{AlgebraError}
-use Rattle.set_document.specs.declared.fault.AlgebraError.TheVariants.{NoMemory}
+use Rattle.set_program.specs.declared.command.Document.{Document}
+use Rattle.set_program.specs.Documents.{Fault, first_fault, answer_of, kind_of, line_of, text_of, IsWantOfMemory}
 use Rattle.set_program.specs.Counts.{Rose, RoseBy}
 use Rattle.set_program.specs.Devices.{ReadWhole, AppendsPrefix}
 use Rattle.set_program.specs.declared.reading.TheConstants.{MAX_TEXT, MAX_READ}
@@ -61,23 +57,23 @@ pub record IsReadWhole (before after : SourceSeen) : Type 0 where
   pub read : ReadWhole MAX_TEXT before.left after.left
   pub faults : after.faults ≡ before.faults
 
--- `Done`: the text was read whole and has no fault, and its answer was written
-pub record Answered (before after : Seen) : Type 0 where
+-- `Done` of a document: the text was read whole and has no fault, and its answer was written
+pub record Answered (kind : Document) (before after : Seen) : Type 0 where
   pub read : IsReadWhole before.source after.source
-  pub no_fault : IfSome before.source.left IsWellFormed
-  pub written : IsWritten (option_map answer before.source.left) before.sink after.sink
+  pub no_fault : IfSome before.source.left (λ text. first_fault kind text ≡ None)
+  pub written : IsWritten (option_map (answer_of kind) before.source.left) before.sink after.sink
 
--- `TextFault`: the text was read whole, this is its first fault, and the fault's line was written
-pub record Faulted (fault : AlgebraError) (before after : Seen) : Type 0 where
+-- the status of a fault: the text was read whole, this is its first fault, and the fault's line was written
+pub record Faulted (fault : Fault) (before after : Seen) : Type 0 where
   pub read : IsReadWhole before.source after.source
-  pub first : IfSome before.source.left (λ text. first_fault text ≡ Some fault)
-  pub of_text : fault ≡ NoMemory → ⊥
-  pub written : IsWritten (Some (fault_line fault)) before.sink after.sink
+  pub first : IfSome before.source.left (λ text. first_fault (kind_of fault) text ≡ Some fault)
+  pub of_text : IsWantOfMemory fault → ⊥
+  pub written : IsWritten (Some (line_of fault)) before.sink after.sink
 
--- `WriteFault` of a text: it was read whole, and of its answer or its fault's line a beginning was written
-pub record WriteFailed (before after : Seen) : Type 0 where
+-- `WriteFault` of a document: it was read whole, and of its answer or its fault's line a beginning was written
+pub record WriteFailed (kind : Document) (before after : Seen) : Type 0 where
   pub read : IsReadWhole before.source after.source
-  pub written : IsCutShort (option_map text_of before.source.left) before.sink after.sink
+  pub written : IsCutShort (option_map (text_of kind) before.source.left) before.sink after.sink
 
 -- `TooLong`: more than 65,536 bytes were taken, and no read failed
 pub record IsTooLong (before after : SourceSeen) : Type 0 where

@@ -3,6 +3,7 @@ pub mod Counts
 pub mod Devices
 pub mod Outcome
 pub mod Command
+pub mod Documents
 pub mod Reading
 pub mod MemorySource
 pub mod MemorySink

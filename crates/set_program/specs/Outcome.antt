@@ -1,18 +1,25 @@
 -- The outcome of a run.
 use Rattle.std.specs.Prelude.{◌≡◌, ℕ, List, ⊤, Option, None, Some}
-use Rattle.set_document.specs.Faults.{first_fault}
-use Rattle.set_document.specs.declared.fault.AlgebraError.{AlgebraError}
+use Rattle.set_program.specs.declared.command.Document.{Document}
+use Rattle.set_program.specs.Documents.{Fault, OfSets, OfRules, first_fault}
 use Rattle.set_program.specs.declared.status.Status.{Status}
-use Rattle.set_program.specs.declared.status.Status.TheVariants.{Done, TextFault, NoMemory, ReadFault, WriteFault, TooLong, Usage}
+use Rattle.set_program.specs.declared.status.Status.TheVariants.{Done, TextFault, NoMemory, ReadFault, WriteFault, TooLong, Usage, RuleFault}
 
--- the status of a text with this first fault
-abbrev pub status_by : Option AlgebraError → Status
+-- the status of a text with this first fault, or without one
+abbrev pub status_by : Option Fault → Status
 status_by None = Done
-status_by (Some fault) = TextFault fault
+status_by (Some (OfSets fault)) = TextFault fault
+status_by (Some (OfRules fault)) = RuleFault fault
 
--- the status of a text, when all calls on the devices succeed
-abbrev pub status_of : List ℕ → Status
-status_of text = status_by (first_fault text)
+-- the status of a text as a document of the kind, when all calls on the devices succeed
+abbrev pub status_of : Document → List ℕ → Status
+status_of kind text = status_by (first_fault kind text)
+
+-- the fault that a status tells, or none
+abbrev pub fault_of : Status → Option Fault
+fault_of (TextFault fault) = Some (OfSets fault)
+fault_of (RuleFault fault) = Some (OfRules fault)
+fault_of _ = None
 
 -- `NoMemory`, or this status
 abbrev pub IsUnlessNoMemory : Status → Status → Type 0
@@ -30,6 +37,7 @@ IsAfterReading _ = ⊤
 abbrev pub IsWithoutWriting : Status → Type 0
 IsWithoutWriting Done = ⊥
 IsWithoutWriting (TextFault fault) = ⊥
+IsWithoutWriting (RuleFault fault) = ⊥
 IsWithoutWriting WriteFault = ⊥
 IsWithoutWriting _ = ⊤
 

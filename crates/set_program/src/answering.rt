@@ -1,25 +1,25 @@
 //! From a text to what the sink gets.
-ghost use Rattle.std.specs.Prelude.{◌≡◌, ◌≤◌, Some, true, IfOk};
-ghost use Rattle.std.specs.Io.KnownBytes.{Appends};
-ghost use Rattle.set_document.specs.Answer.{answer};
-ghost use Rattle.set_document.specs.FaultText.{fault_line, text_of};
-ghost use Rattle.set_document.specs.Faults.{first_fault, IsWellFormed};
-ghost use Rattle.set_program.specs.Counts.{Rose, NotRose};
-ghost use Rattle.set_program.specs.Devices.{AppendsPrefix};
-ghost use Rattle.set_program.specs.Outcome.{IsAfterReading, IsUnlessNoMemory, status_of};
+ghost use Rattle.std.specs.Prelude.{◌≡◌, ◌≤◌, ◌++◌, codes, None, Some, IfOk, IfSome};
+ghost use Rattle.set_program.specs.Counts.{NotRose};
+ghost use Rattle.set_program.specs.Documents.{first_fault, answer_of, line_of, text_of, IsFirstFault};
+ghost use Rattle.set_program.specs.Endings.{sink_seen, IsWritten, IsCutShort};
+ghost use Rattle.set_program.specs.Outcome.{status_of, fault_of, IsAfterReading, IsUnlessNoMemory};
 
+use crate::command::Document;
 use crate::devices::{Failed, Sink};
 use crate::status::Status;
 use crate::writing::write_text;
 use element_core::NoMemory;
+use rule_table::{RuleError, rules_document};
 use set_document::{AlgebraError, evaluate_document};
 use std::alloc::Global;
+use std::fmt::Display;
 use std::io::Write;
 
-/// The line that tells a fault.
-#[tactic(auto, unfolding(set_document::specs::FaultText::fault_line))]
-pub fn line_of(alloc: Global, fault: AlgebraError) -> Result<Vec<u8>, NoMemory>
-    ensures { IfOk result (λ line. line.items ≡ fault_line fault) }
+// The line that tells a fault.
+fn fault_line<F: Display>(alloc: Global, fault: &F) -> Result<Vec<u8>, NoMemory>
+    ensures { IfOk result (λ line. IfSome (F.output fault.now)
+        (λ text. line.items ≡ text ++ codes "\n")) }
 {
     let mut line = Vec::new(alloc);
     match writeln!(line, "{fault}") {
@@ -28,54 +28,49 @@ pub fn line_of(alloc: Global, fault: AlgebraError) -> Result<Vec<u8>, NoMemory>
     }
 }
 
-/// Writes the answer of a text, or the line of its first fault.
-#[tactic(auto, unfolding(set_document::specs::FaultText::text_of))]
-pub fn answer_text<K: Sink>(alloc: Global, text: &[u8], sink: &mut K) -> Status
+// How a run ends that reads this text as a document of the kind, and what it writes, if no call
+// fails.
+#[tactic(auto, unfolding(set_document::specs::FaultText::fault_line))]
+fn judge(alloc: Global, kind: Document, text: &[u8]) -> Result<(Status, Vec<u8>), NoMemory>
+    ensures status { IfOk result (λ told. told.0 ≡ status_of kind text.now) }
+    ensures bytes { IfOk result (λ told. told.1.items ≡ text_of kind text.now) }
+    ensures fault { IfOk result (λ told. IfSome (fault_of told.0) (IsFirstFault kind text.now)) }
+{
+    match kind {
+        Document::Sets => match evaluate_document(alloc, text) {
+            Ok(answer) => Ok((Status::Done, answer)),
+            Err(AlgebraError::NoMemory) => Err(NoMemory),
+            Err(fault) => Ok((Status::TextFault(fault), fault_line(alloc, &fault)?)),
+        },
+        Document::Rules => match rules_document(alloc, text) {
+            Ok(answer) => Ok((Status::Done, answer)),
+            Err(RuleError::NoMemory) => Err(NoMemory),
+            Err(fault) => Ok((Status::RuleFault(fault), fault_line(alloc, &fault)?)),
+        },
+    }
+}
+
+/// Writes the answer of a text as a document of the kind, or the line of its first fault.
+pub fn answer_text<K: Sink>(alloc: Global, kind: Document, text: &[u8], sink: &mut K) -> Status
     ensures reached { IsAfterReading result }
-
-    ensures done_text { result ≡ Status.Done → IsWellFormed text.now }
-    ensures done_written { result ≡ Status.Done
-        → Appends (K.written sink.old) (K.written sink.new) (answer text.now) }
-    ensures done_finished { result ≡ Status.Done → K.finished sink.new ≡ true }
-    ensures done_faults { result ≡ Status.Done → K.faults sink.new ≡ K.faults sink.old }
-
-    ensures fault_text { (fault : AlgebraError) → result ≡ Status.TextFault fault
-        → first_fault text.now ≡ Some fault }
-    ensures fault_written { (fault : AlgebraError) → result ≡ Status.TextFault fault
-        → Appends (K.written sink.old) (K.written sink.new) (fault_line fault) }
-    ensures fault_is_told { result ≡ Status.TextFault AlgebraError.NoMemory → ⊥ }
-    ensures fault_finished { (fault : AlgebraError) → result ≡ Status.TextFault fault
-        → K.finished sink.new ≡ true }
-    ensures fault_faults { (fault : AlgebraError) → result ≡ Status.TextFault fault
-        → K.faults sink.new ≡ K.faults sink.old }
-
-    ensures write_cause { result ≡ Status.WriteFault
-        → Rose (K.faults sink.old) (K.faults sink.new) }
-    ensures write_written { result ≡ Status.WriteFault
-        → AppendsPrefix (K.written sink.old) (K.written sink.new) (text_of text.now) }
-    ensures write_unfinished { result ≡ Status.WriteFault
-        → K.finished sink.new ≡ true → K.finished sink.old ≡ true }
-
-    ensures memory_sink { result ≡ Status.NoMemory → sink.new ≡ sink.old }
-
+    ensures done { result ≡ Status.Done → first_fault kind text.now ≡ None }
+    ensures answered { result ≡ Status.Done → IsWritten (Some (answer_of kind text.now))
+        (sink_seen K.Sink sink.old) (sink_seen K.Sink sink.new) }
+    ensures fault { IfSome (fault_of result) (IsFirstFault kind text.now) }
+    ensures told { IfSome (fault_of result) (λ fault. IsWritten (Some (line_of fault))
+        (sink_seen K.Sink sink.old) (sink_seen K.Sink sink.new)) }
+    ensures cut_short { result ≡ Status.WriteFault → IsCutShort (Some (text_of kind text.now))
+        (sink_seen K.Sink sink.old) (sink_seen K.Sink sink.new) }
+    ensures no_memory { result ≡ Status.NoMemory → sink.new ≡ sink.old }
     ensures complete { NotRose (K.faults sink.old) (K.faults sink.new)
-        → IsUnlessNoMemory result (status_of text.now) }
+        → IsUnlessNoMemory result (status_of kind text.now) }
     ensures faults_never_fall { K.faults sink.old ≤ K.faults sink.new }
 {
-    match evaluate_document(alloc, text) {
-        Ok(output) => match write_text(sink, &output) {
-            Ok(()) => Status::Done,
-            Err(Failed) => Status::WriteFault,
-        },
-        Err(AlgebraError::NoMemory) => Status::NoMemory,
-        Err(fault) => {
-            let Ok(line) = line_of(alloc, fault) else {
-                return Status::NoMemory;
-            };
-            match write_text(sink, &line) {
-                Ok(()) => Status::TextFault(fault),
-                Err(Failed) => Status::WriteFault,
-            }
-        }
+    let Ok((status, bytes)) = judge(alloc, kind, text) else {
+        return Status::NoMemory;
+    };
+    match write_text(sink, &bytes) {
+        Ok(()) => status,
+        Err(Failed) => Status::WriteFault,
     }
 }

@@ -2,6 +2,7 @@
 use crate::devices::PlainSource;
 use crate::program::run;
 use crate::run_tests::{all_done, good_sink};
+use crate::sample_tests::words_of_line;
 use crate::status::Status;
 use set_document::AlgebraError;
 use std::test::Fail;
@@ -33,6 +34,20 @@ const ENDS_ANSWER: &str = "least: -9223372036854775808..=-9223372036854775808\n\
     # -9223372036854775807..=9223372036854775806 other\n\
     # 9223372036854775807..=9223372036854775807 greatest\n";
 
+const FIREWALL: &str =
+    "# who may reach a small office: the last rule that holds an address decides\n\
+    allow 192.168.0.0/16\ndeny 192.168.7.0/24\nallow 192.168.7.20-192.168.7.22\n\
+    allow 203.0.113.9\ndeny 203.0.113.0/24\n";
+
+const FIREWALL_ANSWER: &str = "0.0.0.0-192.167.255.255 none\n192.168.0.0-192.168.6.255 allow\n\
+    192.168.7.0-192.168.7.19 deny\n192.168.7.20-192.168.7.22 allow\n\
+    192.168.7.23-192.168.7.255 deny\n192.168.8.0-192.168.255.255 allow\n\
+    192.169.0.0-203.0.112.255 none\n203.0.113.0-203.0.113.255 deny\n\
+    203.0.114.0-255.255.255.255 none\nblock 192.168.0.0/22\nblock 192.168.4.0/23\n\
+    block 192.168.6.0/24\nblock 192.168.7.20/31\nblock 192.168.7.22/32\n\
+    block 192.168.8.0/21\nblock 192.168.16.0/20\nblock 192.168.32.0/19\n\
+    block 192.168.64.0/18\nblock 192.168.128.0/17\ndead 5\n";
+
 const FAULT: &str = "# the range in the third line is reversed\nlow: 0..=1023\nhigh: 65535..=1024\n\
     all: low high |\n";
 
@@ -44,6 +59,17 @@ fn examples_are_answered(rt: HostRuntime) -> Result<(), Fail> {
         (ENDS, ENDS_ANSWER),
     ];
     all_done(&rt, rt.alloc(), table.as_slice())
+}
+
+#[test]
+fn the_example_of_rules_is_answered(rt: HostRuntime) -> Result<(), Fail> {
+    let alloc = rt.alloc();
+    let words = words_of_line(alloc, "rules")?;
+    let mut source = PlainSource::new(FIREWALL.as_bytes().to_vec(alloc)?);
+    let mut sink = good_sink(alloc)?;
+    assert_eq!(rt; run(alloc, &words, &mut source, &mut sink), Status::Done);
+    assert_eq!(rt; sink.bytes(), FIREWALL_ANSWER.as_bytes());
+    Ok(())
 }
 
 #[test]

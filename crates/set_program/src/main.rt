@@ -5,6 +5,8 @@
 
 mod answering;
 pub mod arguments;
+#[cfg(test)]
+mod callers;
 pub mod command;
 pub mod devices;
 #[cfg(test)]
@@ -13,6 +15,8 @@ mod example_tests;
 mod fault_tests;
 pub mod program;
 mod reading;
+#[cfg(test)]
+mod rules_tests;
 #[cfg(test)]
 mod run_tests;
 #[cfg(test)]

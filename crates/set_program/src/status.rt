@@ -2,6 +2,7 @@
 ghost use Rattle.std.specs.Prelude.{◌≡◌};
 ghost use Rattle.set_program.specs.Codes.{code_of};
 
+use rule_table::RuleError;
 use set_document::AlgebraError;
 
 /// How a run ended.
@@ -9,7 +10,7 @@ use set_document::AlgebraError;
 pub enum Status {
     /// The whole answer was written, or the counts of a sample's.
     Done,
-    /// The text's first fault was written; it is never want of memory.
+    /// The first fault of a text of sets was written; it is never want of memory.
     TextFault(AlgebraError),
     /// Memory ran out before anything was written.
     NoMemory,
@@ -21,10 +22,12 @@ pub enum Status {
     TooLong,
     /// The words are of no form that the program has; nothing was read or written.
     Usage,
+    /// The first fault of a text of rules was written; it is never want of memory.
+    RuleFault(RuleError),
 }
 
 impl Status {
-    /// The code that the process ends with, from 0 for `Done` to 6 for `Usage`. O(1), takes no
+    /// The code that the process ends with, from 0 for `Done` to 7 for `RuleFault`. O(1), takes no
     /// memory.
     pub fn code(&self) -> u8
         ensures { result ≡ code_of self.now }
@@ -37,6 +40,7 @@ impl Status {
             Status::WriteFault => 4,
             Status::TooLong => 5,
             Status::Usage => 6,
+            Status::RuleFault(_) => 7,
         }
     }
 }

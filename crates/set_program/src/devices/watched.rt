@@ -76,8 +76,9 @@ impl Source for EndlessSource {
     ghost faults = { λ _. 0 };
 
     fn read(&mut self, buffer: &mut [u8]) -> Result<usize, Failed> {
+        let reads = self.reads;
+        self.reads = reads.saturating_add(1);
         buffer[0] = b'#';
-        self.reads = self.reads.saturating_add(1);
         Ok(1)
     }
 }
