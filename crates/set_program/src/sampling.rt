@@ -1,10 +1,9 @@
 //! From a number of lines to the counts of a sample's answer, which the sink gets.
-ghost use Rattle.std.specs.Prelude.{◌≡◌, ◌≤◌, true, IfOk, length, sum_by};
-ghost use Rattle.std.specs.Io.KnownBytes.{Appends};
+ghost use Rattle.std.specs.Prelude.{◌≡◌, ◌≤◌, Some, IfOk, length, sum_by};
 ghost use Rattle.set_document.specs.Answer.{shape_text};
 ghost use Rattle.set_document.specs.Sample.{counts_text, summary};
-ghost use Rattle.set_program.specs.Counts.{Rose, NotRose};
-ghost use Rattle.set_program.specs.Devices.{AppendsPrefix};
+ghost use Rattle.set_program.specs.Counts.{NotRose};
+ghost use Rattle.set_program.specs.Endings.{sink_seen, IsWritten, IsCutShort};
 ghost use Rattle.set_program.specs.Outcome.{IsUnlessNoMemory, IsWithoutText};
 
 use crate::devices::{Failed, Sink};
@@ -64,21 +63,11 @@ fn summary_of(alloc: Global, lines: usize) -> Result<Vec<u8>, NoMemory>
 pub fn write_summary<K: Sink>(alloc: Global, lines: usize, sink: &mut K) -> Status
     requires { lines ≤ 1000 }
     ensures reached { IsWithoutText result }
-
-    ensures done_written { result ≡ Status.Done
-        → Appends (K.written sink.old) (K.written sink.new) (summary lines) }
-    ensures done_finished { result ≡ Status.Done → K.finished sink.new ≡ true }
-    ensures done_faults { result ≡ Status.Done → K.faults sink.new ≡ K.faults sink.old }
-
-    ensures write_cause { result ≡ Status.WriteFault
-        → Rose (K.faults sink.old) (K.faults sink.new) }
-    ensures write_written { result ≡ Status.WriteFault
-        → AppendsPrefix (K.written sink.old) (K.written sink.new) (summary lines) }
-    ensures write_unfinished { result ≡ Status.WriteFault
-        → K.finished sink.new ≡ true → K.finished sink.old ≡ true }
-
-    ensures memory_sink { result ≡ Status.NoMemory → sink.new ≡ sink.old }
-
+    ensures done { result ≡ Status.Done → IsWritten (Some (summary lines))
+        (sink_seen K.Sink sink.old) (sink_seen K.Sink sink.new) }
+    ensures cut_short { result ≡ Status.WriteFault → IsCutShort (Some (summary lines))
+        (sink_seen K.Sink sink.old) (sink_seen K.Sink sink.new) }
+    ensures no_memory { result ≡ Status.NoMemory → sink.new ≡ sink.old }
     ensures complete { NotRose (K.faults sink.old) (K.faults sink.new)
         → IsUnlessNoMemory result Status.Done }
     ensures faults_never_fall { K.faults sink.old ≤ K.faults sink.new }

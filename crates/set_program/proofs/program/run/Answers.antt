@@ -7,18 +7,10 @@ pub returns-in-Some-Sample-clause-sample_done : goal.returns-in-Some-Sample-clau
 returns-in-Some-Sample-clause-sample_done g c = λ lines asks done.
     let read : AskForSample c.args.words.now c.in-Some-Sample.lines = rw c.in-Some-Sample.field-0-is at c.in-Some-Sample.ensures in
     let one : lines ≡ c.in-Some-Sample.lines = one_sample c.args.words.now lines c.in-Some-Sample.lines asks read in
-    record {
-      written = rw one (c.write_summary.ensures.done_written done);
-      finished = c.write_summary.ensures.done_finished done;
-      faults = c.write_summary.ensures.done_faults done;
-    }
+    rw one (c.write_summary.ensures.done done)
 
 pub returns-in-Some-Sample-clause-sample_write_fault : goal.returns-in-Some-Sample-clause-sample_write_fault
 returns-in-Some-Sample-clause-sample_write_fault g c = λ lines asks failed.
     let read : AskForSample c.args.words.now c.in-Some-Sample.lines = rw c.in-Some-Sample.field-0-is at c.in-Some-Sample.ensures in
     let one : lines ≡ c.in-Some-Sample.lines = one_sample c.args.words.now lines c.in-Some-Sample.lines asks read in
-    record {
-      cause = c.write_summary.ensures.write_cause failed;
-      written = rw one (c.write_summary.ensures.write_written failed);
-      unfinished = c.write_summary.ensures.write_unfinished failed;
-    }
+    rw one (c.write_summary.ensures.cut_short failed)
