@@ -11,4 +11,6 @@ pub use crate::streams::{is_part_of, items_of_both, keys_of_either, number_of_ke
 #[cfg(test)]
 mod merging_tests;
 #[cfg(test)]
+mod tag_tests;
+#[cfg(test)]
 mod tests;
