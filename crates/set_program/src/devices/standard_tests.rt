@@ -41,6 +41,20 @@ impl Write for TakesNothing {
     }
 }
 
+// A writer that can't be written to, nor flushed.
+#[derive(Drop)]
+struct Broken;
+
+impl Write for Broken {
+    fn write(&mut self, _buf: &[u8]) -> io::Result<usize> {
+        Err(io::Error::from(io::ErrorKind::BrokenPipe))
+    }
+
+    fn flush(&mut self) -> io::Result<()> {
+        Err(io::Error::from(io::ErrorKind::BrokenPipe))
+    }
+}
+
 #[test]
 fn source_goes_on_after_a_fault(rt: HostRuntime) -> Result<(), Fail> {
     let alloc = rt.alloc();
@@ -61,6 +75,18 @@ fn a_write_that_takes_nothing_fails(rt: HostRuntime) -> Result<(), Fail> {
     let mut sink = StdSink::new(TakesNothing);
     assert_eq!(rt; sink.write(b"a"), Err(Failed));
     assert_eq!(rt; sink.finish(), Ok(()));
+    Ok(())
+}
+
+#[test]
+fn a_write_and_a_flush_that_fail_are_told(rt: HostRuntime) -> Result<(), Fail> {
+    let alloc = rt.alloc();
+    let mut sink = StdSink::new(Broken);
+    assert_eq!(rt; sink.write(b"a"), Err(Failed));
+    assert_eq!(rt; sink.finish(), Err(Failed));
+    let mut source = StdSource::new(b"a: 1\n".as_slice());
+    let status = run(alloc, &[], &mut source, &mut sink);
+    assert_eq!(rt; status, Status::WriteFault);
     Ok(())
 }
 
