@@ -9,6 +9,8 @@ pub use crate::merging::{left_merge_join, merge_join};
 pub use crate::streams::{is_part_of, items_of_both, keys_of_either, number_of_keys};
 
 #[cfg(test)]
+mod empty_map_tests;
+#[cfg(test)]
 mod merging_tests;
 #[cfg(test)]
 mod tag_tests;
