@@ -129,7 +129,7 @@ impl RuleTable {
         Some(rule.decision)
     }
 
-    // Whether the rule at a place is dead, as it was marked.
+    // Whether the rule at a place is dead, as it was marks_left.
     fn mark(&self, index: usize) -> Option<bool>
         ensures none { IsNone result ↔ (length self.now ≤ index) }
         ensures some { IfSome result (λ dead.
