@@ -21,9 +21,6 @@ module _ {V : Type 0} (same : V → V → Bool) (eq : IsEquivalence same) (lo hi
   abbrev pub IsFilled : ℤ → List ((ℤ × ℤ) × Option V) → Type 0
   IsFilled n list = IsSwept (option_eq same) filled_at lo n list
 
-  pub filled_start : IsFilled lo []
-  filled_start = swept_start (option_eq same) (options_equiv eq) filled_at lo
-
   -- the gap before the next range
   pub filled_gap : (left rest : List ((ℤ × ℤ) × V)) (p : (ℤ × ℤ) × V) (n : ℤ) (list new : List ((ℤ × ℤ) × Option V)) → left ≡ p ∷ rest
       → IsLeftFrom same lo hi all left n → IsFilled n list → IsLabelled (option_eq same) list (n, p.0.0 -ℤ pos 1) (Some None) new → IsFilled p.0.0 new

@@ -12,9 +12,6 @@ module _ {V : Type 0} (same : V → V → Bool) (lo hi : ℤ) (all : List ((ℤ 
     pub canonical : IsCanonicalMap same n hi left
     pub later : (x : ℤ) → n ≤ℤ x → value_at all x ≡ value_at left x
 
-  pub left_start : IsCanonicalMap same lo hi all → IsLeftFrom all lo
-  left_start c = record { canonical = c; later = λ x h. refl }
-
   -- without its first range
   pub left_step : (left rest : List ((ℤ × ℤ) × V)) (p : (ℤ × ℤ) × V) (n next : ℤ) → left ≡ p ∷ rest → next ≡ p.0.1 +ℤ pos 1 → IsLeftFrom left n → IsLeftFrom rest next
   left_step left rest p n next is above l =

@@ -3,33 +3,14 @@ ghost use Rattle.std.specs.Prelude.{◌≡◌, ℤ, ◌∷◌, [], IfOk, is_some
 ghost use Rattle.number_line.specs.Pieces.{IsJoined};
 ghost use Rattle.number_line.specs.Valued.{value_at, IsCanonicalMap, same_list};
 ghost use Rattle.ordered_lists.specs.Taken.{ClonesAreEqual};
-ghost use Rattle.range_map.specs.Valued.{pairs_in_numbers, IsMap, AreValuedRanges};
 ghost use Rattle.number_line.specs.Parts.{ArePairClones};
 ghost use Rattle.blaze_joins.specs.Joins.{CalledAtValue};
 
 use crate::map::RangeMapBlaze;
 use element_core::{Element, NoMemory};
+use range_map::pairs::clones_of_pairs;
 use range_map::{MapBuilder, Range, RangeMap};
 use std::alloc::Global;
-
-// Returns the same ranges with clones of the values, in their order.
-fn clones_of_pairs<T: Element, V: Eq + Clone + Drop>(
-    alloc: Global,
-    pairs: &[(Range<T>, V)],
-) -> Result<Vec<(Range<T>, V)>, NoMemory>
-    ensures are_ranges { IfOk result (λ copy. AreValuedRanges T.numbers copy.items) }
-    ensures clones { IfOk result
-        (λ copy. ArePairClones V.is_clone (pairs_in_numbers T.numbers pairs.now)
-        (pairs_in_numbers T.numbers copy.items)) }
-{
-    let mut copy = Vec::with_capacity(alloc, pairs.len())?;
-    for pair in pairs {
-        // This tells that the range is one of the type.
-        pair.0.start();
-        copy.push((pair.0, pair.1.clone()?))?;
-    }
-    Ok(copy)
-}
 
 impl<T: Element, V: Eq> RangeMapBlaze<T, V> {
     /// Returns the map in which every key has `value`. O(1) time.

@@ -25,9 +25,6 @@ module _ {T : Type 0} (cmp : T → T → Ordering) (n : Numbering T) (law : IsNu
   either_ascend = rw either_cuts (symmetric_ascends n.least n.greatest (cuts n.greatest left) (cuts n.greatest right)
       (cuts_ascend n.least n.greatest left left_canonical) (cuts_ascend n.least n.greatest right right_canonical))
 
-  pub either_canonical : (set : List (ℤ × ℤ)) → set ≡ from_cuts n.greatest (numbers_of n both) → IsCanonical n.least n.greatest set
-  either_canonical set e = rw e (from_cuts_canonical n.least n.greatest (numbers_of n both) either_ascend)
-
   pub either_holds : (set : List (ℤ × ℤ)) → set ≡ from_cuts n.greatest (numbers_of n both)
       → (x : ℤ) → n.least ≤ℤ x → x ≤ℤ n.greatest → holds set x ≡ xor (holds left x) (holds right x)
   either_holds set e x p q = ap (λ l. holds l x) (e ∙ ap (from_cuts n.greatest) either_cuts)

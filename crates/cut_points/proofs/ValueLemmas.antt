@@ -112,6 +112,3 @@ module _ {T : Type 0} (cmp : T → T → Ordering) (n : Numbering T) (law : IsNu
   symmetric_difference_at xs ys v w =
       union_at (difference cmp xs ys) (difference cmp ys xs) (values_difference xs ys v) (values_difference ys xs w)
       ∙ rw (difference_at xs ys v w, difference_at ys xs w v)
-
-  pub values_symmetric_difference : (xs ys : List T) → AllByRecursion n.IsValue xs → AllByRecursion n.IsValue ys → AllByRecursion n.IsValue (symmetric_difference cmp xs ys)
-  values_symmetric_difference xs ys v w = values_union (difference cmp xs ys) (difference cmp ys xs) (values_difference xs ys v) (values_difference ys xs w)

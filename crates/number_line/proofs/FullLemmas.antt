@@ -10,10 +10,6 @@ use Rattle.number_line.proofs.RangeLemmas.{below_start, first_holds, rest_holds}
 abbrev pub HoldsAll : ℤ → ℤ → List (ℤ × ℤ) → Type 0
 HoldsAll lo hi list = (x : ℤ) → lo ≤ℤ x → x ≤ℤ hi → holds list x ≡ true
 
-pub empty_has_not_all : (lo hi : ℤ) → lo ≤ℤ hi → HoldsAll lo hi [] → ⊥
-empty_has_not_all lo hi order all =
-    let no : false ≡ true = all lo (omega (arith, ints)) order in cc
-
 module _ (lo hi : ℤ) (order : lo ≤ℤ hi) (r : ℤ × ℤ) (rest : List (ℤ × ℤ)) (c : IsCanonical lo hi (r ∷ rest)) where
   pub starts_above : lo <ℤ r.0 → HoldsAll lo hi (r ∷ rest) → ⊥
   starts_above above all =

@@ -9,9 +9,6 @@ use Rattle.number_line.specs.Valued.{value_at, StopsBefore, IsCanonicalMap}
 use Rattle.number_line.specs.Parts.{common, parts, all_with, parts_of_pairs, value_within}
 use Rattle.number_line.proofs.ValuedLemmas.{canonical-lower}
 
-overlap_bounds : (r s : ℤ × ℤ) → overlaps r s ≡ true → (r.0 ≤ℤ s.1) × (s.0 ≤ℤ r.1)
-overlap_bounds r s h = (grind (arith, ints), grind (arith, ints))
-
 common_start : (r s : ℤ × ℤ) → (r.0 ≤ℤ (common r s).0) × (s.0 ≤ℤ (common r s).0)
 common_start r s = (grind (arith, ints), grind (arith, ints))
 

@@ -1,5 +1,5 @@
--- Lists that are the same pair by pair, made one pair after another, and canonical where one of them is.
-use Rattle.std.proofs.Common.{◌≡◌, List, [], ◌∷◌, ◌++◌, refl, ap, sym, ◌∙◌, append_assoc, append-nil}
+-- Lists that are the same pair by pair, and canonical where one of them is.
+use Rattle.std.proofs.Common.{◌≡◌, List, [], ◌∷◌, ap, sym, ◌∙◌}
 use Rattle.std.specs.Prelude.{ℤ, pos, ◌+ℤ◌, Bool, true, false, ◌&&◌}
 use Rattle.std.specs.Cmp.{IsEquivalence}
 use Rattle.std.specs.Ordering.{int_eq}
@@ -8,29 +8,6 @@ use Rattle.std.proofs.lemmas.Bool.Decides.{Decides-int_eq}
 use Rattle.number_line.specs.Valued.{StopsBefore, IsCanonicalMap, same_valued, same_list}
 
 module _ {V : Type 0} (same : V → V → Bool) where
-  -- `made`, followed by what is the same as `left`, is the same as `all`
-  pub record IsSameSoFar (made left all : List ((ℤ × ℤ) × V)) : Type 0 where
-    pub completed : (more : List ((ℤ × ℤ) × V)) → same_list same more left ≡ true → same_list same (made ++ more) all ≡ true
-
-  pub same_start : (made all : List ((ℤ × ℤ) × V)) → made ≡ [] → IsSameSoFar made all all
-  same_start made all none = record { completed = λ more h. rw none h }
-
-  pub same_step : (made new left rest all : List ((ℤ × ℤ) × V)) (r : ℤ × ℤ) (v w : V) → new ≡ made ++ (r, v) ∷ [] → left ≡ (r, w) ∷ rest → same v w ≡ true
-      → IsSameSoFar made left all → IsSameSoFar new rest all
-  same_step made new left rest all r v w is_new is_left equal so_far = record {
-    completed = λ more h.
-        let first : int_eq r.0 r.0 ≡ true = (Decides-int_eq r.0 r.0).1 refl in
-        let last : int_eq r.1 r.1 ≡ true = (Decides-int_eq r.1 r.1).1 refl in
-        let grouped : new ++ more ≡ made ++ (r, v) ∷ more = ap (λ xs. xs ++ more) is_new ∙ append_assoc made ((r, v) ∷ []) more in
-        let one : same_list same ((r, v) ∷ more) left ≡ true = rw (is_left, first, last, equal) h in
-        rw grouped (so_far.completed ((r, v) ∷ more) one);
-  }
-
-  pub same_end : (made left all : List ((ℤ × ℤ) × V)) → left ≡ [] → IsSameSoFar made left all → same_list same made all ≡ true
-  same_end made left all none so_far =
-      let whole : made ++ [] ≡ made = append-nil made in
-      rw (← whole) (so_far.completed [] (rw none refl))
-
   -- the parts of two pairs that are the same
   parts : (p q : (ℤ × ℤ) × V) → same_valued same p q ≡ true → (p.0.0 ≡ q.0.0) × (p.0.1 ≡ q.0.1) × (same p.1 q.1 ≡ true)
   parts p q h =

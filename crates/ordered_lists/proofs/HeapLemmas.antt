@@ -23,21 +23,6 @@ module _ {X : Type 0} {less : X → X → Bool} (o : IsStrictWeakOrder less) whe
   not_itself : (x : X) → less x x ≡ false
   not_itself x = ⊎_elim (λ e. o.one_way x x e) (λ e. e) (cases_Bool (less x x))
 
-  -- of the two children of the element at i, the first one, or else the second one
-  pub left_least : (xs : List X) (i : ℕ) → 2 * i + 1 < length xs → ((d : X) → 2 * i + 2 < length xs → less (slice_index_or xs (2 * i + 2) d) (slice_index_or xs (2 * i + 1) d) ≡ false) → IsLeastChild less i (2 * i + 1) xs
-  left_least xs i in_list h = record {
-    child = inl refl;
-    within = in_list;
-    least = λ k d c l. ⊎_elim (λ e. rw e (not_itself _)) (λ e. rw e (h d (rw e at l))) c;
-  }
-
-  pub right_least : (xs : List X) (i : ℕ) → 2 * i + 2 < length xs → ((d : X) → less (slice_index_or xs (2 * i + 2) d) (slice_index_or xs (2 * i + 1) d) ≡ true) → IsLeastChild less i (2 * i + 2) xs
-  right_least xs i in_list h = record {
-    child = inr refl;
-    within = in_list;
-    least = λ k d c l. ⊎_elim (λ e. rw e (o.one_way _ _ (h d))) (λ e. rw e (not_itself _)) c;
-  }
-
   -- none is less than the first
   pub first_is_least : (xs : List X) → IsHeap less xs → (i : ℕ) (d : X) → i < length xs → less (slice_index_or xs i d) (slice_index_or xs 0 d) ≡ false
   first_is_least xs heap i d l = climb (suc i) i (omega arith) l

@@ -11,3 +11,4 @@ pub mod PermutationLemmas
 pub mod CountLemmas
 pub mod RetainLemmas
 pub mod CloneLemmas
+pub mod TurnLemmas

@@ -9,7 +9,7 @@ use Rattle.std.specs.Option.{option_to_list}
 use Rattle.std.proofs.lemmas.Bool.{false≢true}
 use Rattle.ordered_lists.specs.Lists.{set, sets}
 use Rattle.ordered_lists.specs.Merge.{side}
-use Rattle.ordered_lists.proofs.PlaceLemmas.{all_map, below_all, set_ascends}
+use Rattle.ordered_lists.proofs.PlaceLemmas.{below_all, set_ascends}
 
 pub no_item : {A : Type 0} (xs : List A) → length xs ≡ zero → xs ≡ []
 no_item [] none = refl
@@ -40,12 +40,6 @@ module _ {A : Type 0} (cmp : A → A → Ordering) where
     pub sets_ascend : (xs ys : List A) → IsStrictlySortedBy cmp xs → IsStrictlySortedBy cmp (sets cmp xs ys)
     sets_ascend xs [] a = a
     sets_ascend xs (y ∷ ys) a = sets_ascend (set cmp xs y) ys (set_ascends o xs y a)
-
-    -- items below the first of the second list are below all of it
-    pub front_below : (front : List A) (y : A) (ys : List A) → IsStrictlySortedBy cmp (y ∷ ys) → AllByRecursion (λ x. cmp x y ≡ Less) front
-        → AllByRecursion (λ x. AllByRecursion (λ z. cmp x z ≡ Less) (y ∷ ys)) front
-    unfolding IsStrictlySortedBy
-    front_below front y ys a all = all_map (λ x. cmp x y ≡ Less) (λ x. AllByRecursion (λ z. cmp x z ≡ Less) (y ∷ ys)) (λ x less. (less, below_all o x y ys less a.0)) front all
 
     left_first : (x : A) (xs ys : List A) → IsStrictlySortedBy cmp ys → side cmp (x ∷ xs) ys ≡ Less → sets cmp (x ∷ xs) ys ≡ x ∷ sets cmp xs ys
     unfolding IsStrictlySortedBy

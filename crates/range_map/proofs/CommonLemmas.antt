@@ -81,12 +81,6 @@ module _ (lo hi : ℤ) (a b : List (ℤ × ℤ)) where
       → (x : ℤ) → holds out x ≡ (holds a x && holds b x)
   common_end out left right c none x = sym (or-false (holds out x)) ∙ (ap (λ t. holds out x || t) (sym (none x)) ∙ c.members x)
 
-  pub left_ends : (out right : List (ℤ × ℤ)) → IsCommon lo hi a b out [] right → (x : ℤ) → holds out x ≡ (holds a x && holds b x)
-  left_ends out right c = common_end out [] right c (λ x. refl)
-
-  pub right_ends : (out left : List (ℤ × ℤ)) → IsCommon lo hi a b out left [] → (x : ℤ) → holds out x ≡ (holds a x && holds b x)
-  right_ends out left c = common_end out left [] c (λ x. no_right (holds left x) false refl)
-
   module _ (out : List (ℤ × ℤ)) (p q : ℤ × ℤ) (l k : List (ℤ × ℤ)) (c : IsCommon lo hi a b out (p ∷ l) (q ∷ k)) where
     both_hold : (x : ℤ) → p.0 ≤ℤ x → x ≤ℤ p.1 → q.0 ≤ℤ x → x ≤ℤ q.1 → (holds (p ∷ l) x && holds (q ∷ k) x) ≡ true
     both_hold x e f g h = rw (first_holds p l x e f, first_holds q k x g h)

@@ -73,9 +73,6 @@ module _ {T V : Type 0} (numbers : Numbering T) (same : V → V → Bool) (first
         rw (is, map_push (pair_in_numbers numbers) kept last)
         (step-kept same (pairs_in_numbers numbers kept) (pairs_in_numbers numbers discarded) (pair_in_numbers numbers last) (pair_in_numbers numbers p) c j rest ∙ seen_before rest)
 
-  pub walked-start : (kept discarded : List ((T × T) × V)) → kept ≡ [] → discarded ≡ [] → IsWalked kept discarded first []
-  walked-start kept discarded k d rest = rw (k, d)
-
   -- nothing is left
   pub walked-end : (kept discarded : List ((T × T) × V)) (last : (T × T) × V) (seen new given : List ((T × T) × V)) → new ≡ kept ++ last ∷ [] → given ≡ first ∷ seen
       → IsWalked kept discarded last seen

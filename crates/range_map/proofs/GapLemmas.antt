@@ -29,15 +29,6 @@ pub record IsComplement (lo hi : ℤ) (all out rest : List (ℤ × ℤ)) (floor 
   pub above : (x : ℤ) → floor ≤ℤ x → holds all x ≡ holds rest x
 
 module _ (lo hi : ℤ) (all : List (ℤ × ℤ)) where
-  pub complement_start : IsCanonical lo hi all → IsComplement lo hi all [] all lo
-  complement_start c = record {
-    canonical = tt;
-    rest_canonical = c;
-    from_lo = omega (arith, ints);
-    below = λ x p q. absurd (omega (arith, ints));
-    above = λ x p. refl;
-  }
-
   module _ (out : List (ℤ × ℤ)) (floor : ℤ) where
     out_above : (rest : List (ℤ × ℤ)) → IsComplement lo hi all out rest floor → (x : ℤ) → floor ≤ℤ x → holds out x ≡ false
     out_above rest c x h = above_end lo (floor -ℤ pos 2) out x c.canonical (omega (arith, ints))

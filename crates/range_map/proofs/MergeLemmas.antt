@@ -130,17 +130,6 @@ pub record IsMerged (lo hi : ℤ) (a b out left right : List (ℤ × ℤ)) : Typ
   pub right_canonical : IsCanonical reached hi right
 
 module _ (lo hi : ℤ) (a b : List (ℤ × ℤ)) where
-  pub merged_start : IsCanonical lo hi a → IsCanonical lo hi b → IsMerged lo hi a b [] a b
-  merged_start p q = record {
-    canonical = tt;
-    members = λ x. refl;
-    reached = lo;
-    begin_by = tt;
-    from_lo = omega (arith, ints);
-    left_canonical = p;
-    right_canonical = q;
-  }
-
   -- what the next range meets, before it is joined
   pub merged_next : (out left right : List (ℤ × ℤ)) (r : ℤ × ℤ) (l k : List (ℤ × ℤ))
       → IsMerged lo hi a b out left right → IsTaken hi left right r l k

@@ -130,3 +130,22 @@ pub fn parts_in_set<T: Element, V: Clone + Drop>(
     }
     Ok(made)
 }
+
+/// Returns the pairs in their order, each with a clone of its value.
+pub fn clones_of_pairs<T: Element, V: Clone + Drop>(
+    alloc: Global,
+    pairs: &[(Range<T>, V)],
+) -> Result<Vec<(Range<T>, V)>, NoMemory>
+    ensures ranges { IfOk result (λ copy. AreValuedRanges T.numbers copy.items) }
+    ensures clones { IfOk result
+        (λ copy. ArePairClones V.is_clone (pairs_in_numbers T.numbers pairs.now)
+        (pairs_in_numbers T.numbers copy.items)) }
+{
+    let mut copy = Vec::with_capacity(alloc, pairs.len())?;
+    for pair in pairs {
+        // This tells that the range is one of the type.
+        pair.0.start();
+        copy.push((pair.0, pair.1.clone()?))?;
+    }
+    Ok(copy)
+}

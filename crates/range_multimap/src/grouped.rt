@@ -1,6 +1,7 @@
 //! The values of the ranges that hold a key.
 ghost use Rattle.std.specs.Prelude.{◌≡◌, IfOk, true};
 ghost use Rattle.std.specs.Cmp.Lexicographic.{pointwise};
+ghost use Rattle.std.specs.List.{AllZip};
 ghost use Rattle.ordered_lists.specs.Taken.{ClonesAreEqual};
 
 use element_core::NoMemory;
@@ -26,18 +27,6 @@ impl<V: Eq> Model for Group<V> {
     ghost view = { λ group. group.values.items };
 }
 
-// Clones of the values, in their order.
-fn clones_of<V: Eq + Clone + Drop>(alloc: Global, values: &[V]) -> Result<Vec<V>, NoMemory>
-    requires { ClonesAreEqual V.is_clone V.eq }
-    ensures { IfOk result (λ copy. pointwise V.eq copy.items values.now ≡ true) }
-{
-    let mut copy = Vec::with_capacity(alloc, values.len())?;
-    for value in values {
-        copy.push(value.clone()?)?;
-    }
-    Ok(copy)
-}
-
 impl<V: Eq> Group<V> {
     /// Returns the values. O(1) time, no memory.
     pub fn as_slice(&self) -> &[V]
@@ -53,14 +42,17 @@ impl<V: Eq> Group<V> {
         self.values
     }
 
-    /// Returns a group equal to this one. O(n) time for n values, beside their clones.
+    /// Returns a group equal to this one, with clones of its values. O(n) time for n values, beside
+    /// the clones.
     pub fn try_clone(&self, alloc: Global) -> Result<Self, NoMemory>
     where
         V: Clone + Drop,
         requires { ClonesAreEqual V.is_clone V.eq }
-        ensures { IfOk result (λ copy. pointwise V.eq copy self.now ≡ true) }
+        ensures clones { IfOk result (AllZip V.is_clone self.now) }
+        ensures equal { IfOk result (λ copy. pointwise V.eq copy self.now ≡ true) }
     {
-        let values = clones_of(alloc, self.values.as_slice())?;
+        let mut values = Vec::with_capacity(alloc, self.values.len())?;
+        values.extend_with_clones(self.values.as_slice())?;
         Ok(Group { values })
     }
 }

@@ -16,9 +16,6 @@ module _ {K V : Type 0} {g : ord.Ghosts K} {g' : eq.Ghosts K} {g'' : partial.Gho
   pub same_place : (m : MutBor (Content K V)) (i : ℕ) (a b : i < length m.now.pairs) → (let e : OccupiedEntry K V g g' g'' = record { map = m; at = i; within = a } in e) ≡ record { map = m; at = i; within = b }
   same_place m i a b = λ j. record { map = m; at = i; within = le_prop a b j }
 
-  pub same_as_before : (e : Entry K V g g' g'') → IsSamePlace e e
-  same_as_before e = record { lent = refl; spare = refl; taken = refl; key = refl; written = λ w. refl; removed = refl }
-
   pub stays_in_place : (e : OccupiedEntry K V g g' g'') (w : V) → IsSamePlace (Occupied e) (Occupied (storing e w))
   stays_in_place e w = record {
     lent = refl;

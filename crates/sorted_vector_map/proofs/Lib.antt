@@ -1,5 +1,4 @@
 pub mod PutLemmas
-pub mod TurnLemmas
 pub mod RetainLemmas
 pub mod CloneLemmas
 pub mod ComingLemmas

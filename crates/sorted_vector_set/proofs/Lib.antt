@@ -1,4 +1,3 @@
 pub mod KeepLemmas
 pub mod LazyLemmas
 pub mod RelationLemmas
-pub mod TurnLemmas

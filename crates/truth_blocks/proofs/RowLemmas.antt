@@ -95,9 +95,6 @@ begins_later label p =
     let d : suc p - 1 ≡ p = omega arith in
     rw (z, d) refl
 
-change_first : (w : ℕ) (b : Bool) → is_change w b 0 ≡ xor (is_one w 0) b
-change_first w b = refl
-
 change_later : (w : ℕ) (b : Bool) (i : ℕ) → is_change w b (suc i) ≡ xor (is_one w (suc i)) (is_one w i)
 change_later w b i =
     let z : (suc i == 0) ≡ false = grind (arith, nat_tests) in

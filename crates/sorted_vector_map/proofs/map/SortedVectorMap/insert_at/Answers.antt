@@ -4,7 +4,7 @@ use Rattle.ordered_lists.specs.Lists.{by_key}
 use Rattle.ordered_lists.proofs.PlaceLemmas.{set_ascends}
 use Rattle.ordered_lists.proofs.PairLemmas.{by_key_total}
 use Rattle.sorted_vector_map.specs.Content.{Content}
-use Rattle.sorted_vector_map.proofs.TurnLemmas.{turned_in}
+use Rattle.ordered_lists.proofs.TurnLemmas.{turned_in}
 use Rattle.sorted_vector_map.proofs.map.SortedVectorMap.insert_at.Goals as goal
 
 pub invariant_of-self-2 : goal.invariant_of-self-2

@@ -2,7 +2,7 @@ use Rattle.std.proofs.Common.{◌≡◌, [], ◌∷◌, ◌++◌, refl, sym, ap,
 use Rattle.std.specs.List.Sorted.{IsStrictlySortedBy}
 use Rattle.ordered_lists.proofs.PlaceLemmas.{set_ascends}
 use Rattle.sorted_vector_set.specs.Content.{Content}
-use Rattle.sorted_vector_set.proofs.TurnLemmas.{turned_in}
+use Rattle.ordered_lists.proofs.TurnLemmas.{turned_in}
 use Rattle.sorted_vector_set.proofs.set.SortedVectorSet.insert_at.Goals as goal
 
 pub invariant_of-self-2 : goal.invariant_of-self-2

@@ -2,11 +2,11 @@ use Rattle.std.proofs.Common.{drop}
 use Rattle.range_map.specs.Valued.{pairs_in_numbers, AreValuedRanges}
 use Rattle.number_line.specs.Parts.{IsPairClone}
 use Rattle.number_line.proofs.ZippedLemmas.{IsZipped}
-use Rattle.blaze_joins.proofs.copying.clones_of_pairs.Given as goal
+use Rattle.range_map.proofs.pairs.clones_of_pairs.Given as goal
 
 abbrev pub invariant-loop-pair : goal.invariant-loop-pair
 invariant-loop-pair g l = record {
-  are_ranges : AreValuedRanges g.T.Element.numbers l.copy.items;
+  ranges : AreValuedRanges g.T.Element.numbers l.copy.items;
   made : IsZipped (IsPairClone g.V.Clone.is_clone) (pairs_in_numbers g.T.Element.numbers (drop l.pair-index l.pairs))
       (pairs_in_numbers g.T.Element.numbers l.pairs) (pairs_in_numbers g.T.Element.numbers l.copy.items);
 }
