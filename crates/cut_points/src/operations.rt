@@ -1,10 +1,11 @@
 //! The members of just one of two sets, by cuts, and those of the left one alone.
 #![tactic(auto, using(sorted_iter::specs::Sources::sources))]
 
-ghost use Rattle.std.specs.Prelude.{◌≡◌, ℤ, ◌≤ℤ◌, ◌&&◌, not, IfOk};
+ghost use Rattle.std.specs.Prelude.{◌≡◌, ◌&&◌, not, IfOk};
 ghost use Rattle.std.specs.List.Sorted.{IsStrictlySortedBy};
 ghost use Rattle.number_line.specs.Ranges.{holds, IsCanonical, xor};
 ghost use Rattle.ordered_lists.specs.Lists.{symmetric_difference};
+ghost use Rattle.range_map.specs.Range.{EachNumber};
 
 use crate::convert::{cut_list, from_cut_slice};
 use element_core::{Element, NoMemory};
@@ -35,8 +36,8 @@ pub fn symmetric_difference<T: Element>(
     right: &RangeSet<T>,
 ) -> Result<RangeSet<T>, NoMemory>
     ensures canonical { IfOk result (IsCanonical T.numbers.least T.numbers.greatest) }
-    ensures members { IfOk result (λ set. (x : ℤ) → T.numbers.least ≤ℤ x → x ≤ℤ T.numbers.greatest
-        → holds set x ≡ xor (holds left.now x) (holds right.now x)) }
+    ensures members { IfOk result (λ set. EachNumber T.numbers
+        (λ x. holds set x ≡ xor (holds left.now x) (holds right.now x))) }
 {
     left.ranges();
     right.ranges();
@@ -55,8 +56,8 @@ pub fn difference<T: Element>(
     right: &RangeSet<T>,
 ) -> Result<RangeSet<T>, NoMemory>
     ensures canonical { IfOk result (IsCanonical T.numbers.least T.numbers.greatest) }
-    ensures members { IfOk result (λ set. (x : ℤ) → T.numbers.least ≤ℤ x → x ≤ℤ T.numbers.greatest
-        → holds set x ≡ (holds left.now x && not (holds right.now x))) }
+    ensures members { IfOk result (λ set. EachNumber T.numbers
+        (λ x. holds set x ≡ (holds left.now x && not (holds right.now x)))) }
 {
     let others = right.negated(alloc)?;
     let set = left.intersection(alloc, &others)?;

@@ -14,6 +14,10 @@ pub record IsRange {T : Type 0} (numbers : Numbering T) (range : T × T) : Type 
 abbrev pub in_numbers : {T : Type 0} → Numbering T → T × T → ℤ × ℤ
 in_numbers numbers range = (numbers.number range.0, numbers.number range.1)
 
+-- each number of the type has the property
+abbrev pub EachNumber : {T : Type 0} → Numbering T → (ℤ → Type 0) → Type 0
+EachNumber numbers P = (x : ℤ) → numbers.least ≤ℤ x → x ≤ℤ numbers.greatest → P x
+
 -- where a range of numbers lies beside x: below it, above it, or around it
 abbrev pub place_beside : ℤ → ℤ × ℤ → Ordering
 place_beside x range = if int_lt range.1 x then Less else if int_lt x range.0 then Greater else Equal

@@ -1,10 +1,10 @@
 //! Sets of values, each kept as its ranges.
-ghost use Rattle.std.specs.Prelude.{◌≡◌, ℤ, ◌≤ℤ◌, ◌&&◌, ◌||◌, not};
+ghost use Rattle.std.specs.Prelude.{◌≡◌, ℤ, ◌&&◌, ◌||◌, not};
 ghost use Rattle.std.specs.Prelude.{[], ◌∷◌, length, IfOk, IsTrue, ◌↔◌};
 ghost use Rattle.number_line.specs.Parts.{parts};
 ghost use Rattle.number_line.specs.Ranges.{holds, IsCanonical};
 ghost use Rattle.range_map.specs.Merging.{EndFrom};
-ghost use Rattle.range_map.specs.Range.{in_numbers};
+ghost use Rattle.range_map.specs.Range.{in_numbers, EachNumber};
 ghost use Rattle.range_map.specs.Set.{all_in_numbers};
 
 mod counting;
@@ -180,8 +180,7 @@ impl<T: Element> RangeSet<T> {
     pub fn negated(&self, alloc: Global) -> Result<Self, NoMemory>
         ensures canonical { IfOk result (IsCanonical T.numbers.least T.numbers.greatest) }
         ensures members { IfOk result
-            (λ set. (x : ℤ) → T.numbers.least ≤ℤ x → x ≤ℤ T.numbers.greatest
-            → holds set x ≡ not (holds self.now x)) }
+            (λ set. EachNumber T.numbers (λ x. holds set x ≡ not (holds self.now x))) }
     {
         let mut set = RangeSet::with_capacity(alloc, self.ranges.len().saturating_add(1))?;
         let mut start = T::min_value();

@@ -1,9 +1,10 @@
 //! How many keys a map has, whether it has all, and their set.
-ghost use Rattle.std.specs.Prelude.{◌≡◌, ℤ, ◌≤ℤ◌, min, length, IsTrue, IfOk, is_some, true, ◌↔◌};
+ghost use Rattle.std.specs.Prelude.{◌≡◌, ℤ, min, length, IsTrue, IfOk, is_some, true, ◌↔◌};
 ghost use Rattle.number_line.specs.Members.{members};
 ghost use Rattle.number_line.specs.Ranges.{holds, IsCanonical};
 ghost use Rattle.number_line.specs.Valued.{value_at};
 ghost use Rattle.range_map.specs.Bounds.{ranges_of};
+ghost use Rattle.range_map.specs.Range.{EachNumber};
 
 use crate::map::RangeMap;
 use crate::set::{RangeSet, size_of};
@@ -13,8 +14,8 @@ use std::alloc::Global;
 impl<T: Element, V: Eq> RangeMap<T, V> {
     /// Returns whether every value of the type is a key. O(n) time for n ranges, no memory.
     pub fn is_full(&self) -> bool
-        ensures { IsTrue result ↔ ((x : ℤ) → T.numbers.least ≤ℤ x → x ≤ℤ T.numbers.greatest
-            → is_some (value_at self.now x) ≡ true) }
+        ensures { IsTrue result
+            ↔ EachNumber T.numbers (λ x. is_some (value_at self.now x) ≡ true) }
     {
         let mut start = T::min_value();
         // This tells that there is a value at all.

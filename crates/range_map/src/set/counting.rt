@@ -1,8 +1,8 @@
 //! How many values a set has, and whether it has all.
-ghost use Rattle.std.specs.Prelude.{◌≡◌, ℤ, ◌≤ℤ◌, min, length, IsTrue, true, ◌↔◌};
+ghost use Rattle.std.specs.Prelude.{◌≡◌, min, length, IsTrue, true, ◌↔◌};
 ghost use Rattle.number_line.specs.Members.{size, members};
 ghost use Rattle.number_line.specs.Ranges.{holds};
-ghost use Rattle.range_map.specs.Range.{in_numbers};
+ghost use Rattle.range_map.specs.Range.{in_numbers, EachNumber};
 
 use crate::range::Range;
 use crate::set::RangeSet;
@@ -18,8 +18,7 @@ pub(crate) fn size_of<T: Element>(range: &Range<T>) -> usize
 impl<T: Element> RangeSet<T> {
     /// Returns whether every value of the type is a member. O(1) time, no memory.
     pub fn is_full(&self) -> bool
-        ensures { IsTrue result ↔ ((x : ℤ) → T.numbers.least ≤ℤ x → x ≤ℤ T.numbers.greatest
-            → holds self.now x ≡ true) }
+        ensures { IsTrue result ↔ EachNumber T.numbers (λ x. holds self.now x ≡ true) }
     {
         let least = T::min_value();
         // This tells that there is a value at all.
