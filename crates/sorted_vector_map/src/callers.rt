@@ -3,8 +3,8 @@ ghost use Rattle.std.specs.Prelude.{◌≡◌, true, length, map, IfOk};
 ghost use Rattle.ordered_lists.specs.Taken.{ClonesAreEqual};
 
 use crate::laws::{clones_are_equal, refilled_keeps_keys, refilled_keeps_length};
-use crate::{Entry, NoMemory, Refused, SortedVectorMap};
-use std::alloc::Global;
+use crate::{Entry, Keys, NoMemory, Refused, SortedVectorMap};
+use std::alloc::{AllocError, Global};
 
 // The value that was put in, read at its key.
 pub(crate) fn put_and_read<K: Ord + Copy + Drop>(
@@ -86,4 +86,14 @@ pub(crate) fn set_all(prices: &mut SortedVectorMap<u32, u32>, price: u32)
     for (_, value) in prices.iter_mut() {
         *value = price;
     }
+}
+
+// Whether a clone of the keys gives what they give, from either end, which it does.
+pub(crate) fn clone_gives_the_same(keys: &mut Keys<'_, u32, u32>) -> Result<bool, AllocError>
+    ensures { IfOk result (λ same. same ≡ true) }
+{
+    let mut copy = keys.clone()?;
+    let first = keys.next().copied() == copy.next().copied();
+    let last = keys.next_back().copied() == copy.next_back().copied();
+    Ok(first && last)
 }

@@ -5,8 +5,8 @@ ghost use Rattle.std.specs.Range.Bound.{bound_map};
 ghost use Rattle.ordered_lists.specs.Bounds.{AreInOrder};
 
 use crate::callers::{
-    clone_is_equal, put_and_read, read_or_default, read_or_fill, read_or_insert,
-    read_or_insert_with,
+    clone_gives_the_same, clone_is_equal, put_and_read, read_or_default, read_or_fill,
+    read_or_insert, read_or_insert_with,
 };
 use crate::iters::iter_mut_tests::even_keys;
 use crate::{NoMemory, SortedVectorMap};
@@ -291,6 +291,78 @@ fn keys_meet_in_the_middle(rt: HostRuntime) -> Result<(), Fail> {
     assert_eq!(rt; owned.next(), Some(1));
     assert_eq!(rt; owned.next_back(), Some(3));
     assert_eq!(rt; owned.size_hint(), (1, Some(1)));
+    Ok(())
+}
+
+fn four(alloc: Global) -> Result<SortedVectorMap<u32, char>, Fail> {
+    Ok(SortedVectorMap::try_from_iter(alloc, [(1, 'a'), (2, 'b'), (3, 'c'), (4, 'd')])?)
+}
+
+#[test]
+fn a_clone_of_pairs_gives_the_same_rest(rt: HostRuntime) -> Result<(), Fail> {
+    let map = four(rt.alloc())?;
+    let mut pairs = map.iter();
+    assert!(rt; pairs.next().is_some_and(|pair| *pair.0 == 1));
+    let mut copy = pairs.clone()?;
+    assert!(rt;
+        pairs
+            .next()
+            .is_some_and(|pair| *pair.0 == 2 && *pair.1 == 'b')
+    );
+    assert_eq!(rt; copy.len(), 3);
+    assert!(rt;
+        copy.next()
+            .is_some_and(|pair| *pair.0 == 2 && *pair.1 == 'b')
+    );
+    assert!(rt;
+        copy.next_back()
+            .is_some_and(|pair| *pair.0 == 4 && *pair.1 == 'd')
+    );
+    assert_eq!(rt; copy.len(), 1);
+    Ok(())
+}
+
+#[test]
+fn a_clone_of_keys_gives_the_same_rest(rt: HostRuntime) -> Result<(), Fail> {
+    let map = numbered(rt.alloc(), 1, 6)?;
+    let mut keys = map.keys();
+    assert_eq!(rt; keys.next_back().copied(), Some(5));
+    let mut copy = keys.clone()?;
+    assert!(rt; clone_gives_the_same(&mut keys)?);
+    assert_eq!(rt; copy.len(), 4);
+    assert_eq!(rt; copy.next().copied(), Some(1));
+    assert_eq!(rt; copy.next_back().copied(), Some(4));
+    assert_eq!(rt; keys.len(), 2);
+    Ok(())
+}
+
+#[test]
+fn a_clone_of_values_gives_the_same_rest(rt: HostRuntime) -> Result<(), Fail> {
+    let map = four(rt.alloc())?;
+    let mut values = map.values();
+    assert_eq!(rt; values.next().copied(), Some('a'));
+    let mut copy = values.clone()?;
+    assert_eq!(rt; values.next_back().copied(), Some('d'));
+    assert_eq!(rt; values.len(), 2);
+    assert_eq!(rt; copy.len(), 3);
+    assert_eq!(rt; copy.next().copied(), Some('b'));
+    assert_eq!(rt; copy.next_back().copied(), Some('d'));
+    Ok(())
+}
+
+#[test]
+fn every_iterator_has_its_length(rt: HostRuntime) -> Result<(), Fail> {
+    let mut map = four(rt.alloc())?;
+    let mut written = map.values_mut();
+    written.next();
+    assert_eq!(rt; written.len(), 3);
+    drop(written);
+    let mut keys = four(rt.alloc())?.into_keys();
+    keys.next();
+    assert_eq!(rt; keys.len(), 3);
+    let mut values = map.into_values();
+    values.next_back();
+    assert_eq!(rt; values.len(), 3);
     Ok(())
 }
 

@@ -1,9 +1,10 @@
 //! The iterators of a map that is borrowed.
-ghost use Rattle.std.specs.Prelude.{◌≡◌, ◌^◌, ◌<◌, length, map};
+ghost use Rattle.std.specs.Prelude.{◌≡◌, ◌^◌, ◌<◌, ⊤, length, map};
 ghost use Rattle.std.specs.Iterator.{YieldsFirstBy, YieldsLastBy, item_count};
 ghost use Rattle.std.specs.Map.Iter.{deref, deref_pair};
 ghost use Rattle.sorted_vector_map.specs.Hints.{IsExact};
 
+use std::alloc::AllocError;
 use std::iter::ExactSizeIterator;
 use std::marker::Model;
 use std::slice;
@@ -33,6 +34,17 @@ impl<'map, K, V> Iter<'map, K, V> {
         Iter {
             pairs: pairs.iter(),
         }
+    }
+}
+
+impl<'map, K, V> Clone for Iter<'map, K, V> {
+    ghost is_clone = { λ iter copy. copy ≡ iter };
+
+    ghost is_infallible = { λ _. ⊤ };
+
+    fn clone(&self) -> Result<Self, AllocError> {
+        let pairs = self.pairs.clone()?;
+        Ok(Iter { pairs })
     }
 }
 
@@ -95,6 +107,17 @@ impl<'map, K, V> Keys<'map, K, V> {
     }
 }
 
+impl<'map, K, V> Clone for Keys<'map, K, V> {
+    ghost is_clone = { λ iter copy. copy ≡ iter };
+
+    ghost is_infallible = { λ _. ⊤ };
+
+    fn clone(&self) -> Result<Self, AllocError> {
+        let pairs = self.pairs.clone()?;
+        Ok(Keys { pairs })
+    }
+}
+
 impl<'map, K, V> Iterator for Keys<'map, K, V> {
     type Item = &'map K;
 
@@ -123,6 +146,12 @@ impl<'map, K, V> DoubleEndedIterator for Keys<'map, K, V> {
     }
 }
 
+impl<'map, K, V> ExactSizeIterator for Keys<'map, K, V> {
+    fn len(&self) -> usize {
+        self.pairs.len()
+    }
+}
+
 /// The values of a map that are still to come.
 ///
 /// Gives them from both ends, with their exact number as its hint. Each call O(1) time, no memory.
@@ -144,6 +173,17 @@ impl<'map, K, V> Values<'map, K, V> {
         ensures { result ≡ map (λ p. p.1) pairs.entry }
     {
         Values { pairs }
+    }
+}
+
+impl<'map, K, V> Clone for Values<'map, K, V> {
+    ghost is_clone = { λ iter copy. copy ≡ iter };
+
+    ghost is_infallible = { λ _. ⊤ };
+
+    fn clone(&self) -> Result<Self, AllocError> {
+        let pairs = self.pairs.clone()?;
+        Ok(Values { pairs })
     }
 }
 
@@ -172,5 +212,11 @@ impl<'map, K, V> DoubleEndedIterator for Values<'map, K, V> {
     fn next_back(&mut self) -> Option<&'map V> {
         let (_, value) = self.pairs.next_back()?;
         Some(value)
+    }
+}
+
+impl<'map, K, V> ExactSizeIterator for Values<'map, K, V> {
+    fn len(&self) -> usize {
+        self.pairs.len()
     }
 }

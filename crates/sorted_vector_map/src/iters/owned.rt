@@ -3,6 +3,7 @@ ghost use Rattle.std.specs.Prelude.{◌≡◌, ◌^◌, ◌<◌, length, map};
 ghost use Rattle.std.specs.Iterator.{YieldsFirst, YieldsLast, item_count};
 ghost use Rattle.sorted_vector_map.specs.Hints.{IsExact};
 
+use std::iter::ExactSizeIterator;
 use std::marker::Model;
 use std::vec;
 
@@ -63,6 +64,12 @@ impl<K: Drop, V: Drop> DoubleEndedIterator for IntoKeys<K, V> {
     }
 }
 
+impl<K: Drop, V: Drop> ExactSizeIterator for IntoKeys<K, V> {
+    fn len(&self) -> usize {
+        self.pairs.len()
+    }
+}
+
 /// The values that are still to come of a map that is used up.
 ///
 /// Gives them from both ends, with their exact number as its hint. Each call O(1) time, no memory.
@@ -117,5 +124,11 @@ impl<K: Drop, V: Drop> DoubleEndedIterator for IntoValues<K, V> {
     fn next_back(&mut self) -> Option<V> {
         let (_, value) = self.pairs.next_back()?;
         Some(value)
+    }
+}
+
+impl<K: Drop, V: Drop> ExactSizeIterator for IntoValues<K, V> {
+    fn len(&self) -> usize {
+        self.pairs.len()
     }
 }

@@ -53,3 +53,9 @@ impl<'map, K, V> DoubleEndedIterator for ValuesMut<'map, K, V> {
         Some(value)
     }
 }
+
+impl<'map, K, V> ExactSizeIterator for ValuesMut<'map, K, V> {
+    fn len(&self) -> usize {
+        self.pairs.len()
+    }
+}
