@@ -22,7 +22,10 @@ use std::mem;
 fn compare_ranges<T: Element>(a: &Range<T>, b: &Range<T>) -> Ordering
     ensures { result ≡ range_cmp (in_numbers T.numbers a.now) (in_numbers T.numbers b.now) }
 {
-    compare(a.start(), b.start()).then(compare(a.end(), b.end()))
+    match compare(a.start(), b.start()) {
+        Ordering::Equal => compare(a.end(), b.end()),
+        order => order,
+    }
 }
 
 // Returns whether `next` overlaps `last` with another value.

@@ -10,12 +10,16 @@ use crate::sweep::bounds::Bound;
 use element_core::{Element, NoMemory, is_below};
 use std::alloc::Global;
 use std::marker::Model;
+use std::mem;
 
 /// The places of the ranges that hold the value last entered, ascending.
 #[derive(Drop)]
 pub struct ActivePlaces<'a, T: Element> {
     pub(crate) places: Vec<usize>,
     pub(crate) rest: &'a [Bound<T>],
+    // These two hold nothing that is read again: `enter` makes its lists in their room.
+    pub(crate) passed: Vec<usize>,
+    pub(crate) left: Vec<usize>,
 }
 
 impl<'a, T: Element> Model for ActivePlaces<'a, T> {
@@ -53,14 +57,14 @@ fn toggle(places: &mut Vec<usize>, place: usize) -> Result<(), NoMemory>
     Ok(())
 }
 
-// Returns the places that stand in a sorted list an odd number of times.
-fn odd_ones(alloc: Global, sorted: &[usize]) -> Result<Vec<usize>, NoMemory>
+// Returns the places that stand in a sorted list an odd number of times, in the room of `odd`.
+fn odd_ones(mut odd: Vec<usize>, sorted: &[usize]) -> Result<Vec<usize>, NoMemory>
     requires { IsSorted nat_cmp sorted.now }
     ensures ascending { IfOk result (λ odd. AscendFrom 0 odd.items) }
     ensures odd { IfOk result
         (λ odd. (place : ℕ) → has_place odd.items place ≡ is_odd sorted.now place) }
 {
-    let mut odd = Vec::with_capacity(alloc, sorted.len())?;
+    odd.clear();
     for place in sorted {
         toggle(&mut odd, *place)?;
     }
@@ -79,7 +83,8 @@ impl<'a, T: Element> ActivePlaces<'a, T> {
         ensures unchanged { OnErr result (self.new ≡ self.old) }
     {
         x.in_type();
-        let mut all = Vec::with_capacity(alloc, self.places.len())?;
+        let mut all = mem::replace(&mut self.passed, Vec::new(alloc));
+        all.clear();
         all.extend_from_slice(self.places.as_slice())?;
         let mut rest = self.rest;
         while let Some((bound, behind)) = rest.split_first() {
@@ -92,7 +97,10 @@ impl<'a, T: Element> ActivePlaces<'a, T> {
         // A place that was active and one of whose bounds was passed stands there twice. The sort
         // takes one pass where few bounds were passed.
         all.sort()?;
-        self.places = odd_ones(alloc, all.as_slice())?;
+        let left = mem::replace(&mut self.left, Vec::new(alloc));
+        let odd = odd_ones(left, all.as_slice())?;
+        self.left = mem::replace(&mut self.places, odd);
+        self.passed = all;
         self.rest = rest;
         Ok(())
     }

@@ -106,6 +106,8 @@ impl<T: Element> Bounds<T> {
         ActivePlaces {
             places: Vec::new(alloc),
             rest: self.bounds.as_slice(),
+            passed: Vec::new(alloc),
+            left: Vec::new(alloc),
         }
     }
 

@@ -5,7 +5,7 @@ use Rattle.range_map.proofs.OddLemmas.{kept_start, kept_below, kept_step, kept_e
 use Rattle.range_map.proofs.sweep.active_places.odd_ones.Goals as goal
 
 pub loop-place-init : goal.loop-place-init
-loop-place-init c = kept_start c.args.sorted.now _ c.in_ok-odd.ensures.items c.requires
+loop-place-init c = kept_start c.args.sorted.now _ c.clear.ensures.items c.requires
 
 pub toggle-requires : goal.toggle-requires
 toggle-requires c =

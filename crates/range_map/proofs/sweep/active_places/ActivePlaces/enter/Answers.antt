@@ -15,7 +15,7 @@ loop-bound-init g c =
     record {
       in_order = c.self.invariant.0;
       told = λ ranges active. told_start numbers.greatest ranges (numbers.number c.args.x) c.self.inside.places.items _ _
-          (rw (c.in_ok-extend_from_slice.ensures.items, c.in_ok-all.ensures.items, c.as_slice.ensures.value) refl) c.self.invariant.1
+          (rw (c.in_ok-extend_from_slice.ensures.items, c.clear.ensures.items, c.as_slice.ensures.value) refl) c.self.invariant.1
           (subst (λ a. AreActive numbers.greatest ranges (numbers.number c.args.x) a) (sym c.self.view_is) active);
     }
 
@@ -35,8 +35,8 @@ pub returns-clause-goes_on : goal.returns-clause-goes_on
 returns-clause-goes_on g c =
     let numbers = g.T.Element.numbers in
     λ ranges n active low place x above high.
-    told_end numbers.greatest ranges (numbers.number c.args.x) _ _ _ _ c.in_ok-sort.ensures.permutation
-    (rw c.as_slice-2.ensures.value at c.in_ok-self-inside.ensures.odd) (c.loop-bound.invariant.told ranges active) place x (omega (arith, ints)) high
+    rw c.replace.ensures.after (told_end numbers.greatest ranges (numbers.number c.args.x) _ _ _ _ c.in_ok-sort.ensures.permutation
+    (rw c.as_slice-2.ensures.value at c.in_ok-odd.ensures.odd) (c.loop-bound.invariant.told ranges active) place x (omega (arith, ints)) high)
 
 pub returns-clause-entered : goal.returns-clause-entered
 returns-clause-entered g c =
@@ -51,6 +51,6 @@ returns-clause-entered g c =
       | in_default w ↦ λ place. rw (nil_from_length _ w.in_default.ensures.cases) refl
     ] in
     λ ranges active.
-    active_places numbers.greatest ranges (numbers.number c.args.x) _ _ c.in_ok-self-inside.ensures.ascending c.in_type.ensures.high none
+    rw c.replace.ensures.after (active_places numbers.greatest ranges (numbers.number c.args.x) _ _ c.in_ok-odd.ensures.ascending c.in_type.ensures.high none
     (told_end numbers.greatest ranges (numbers.number c.args.x) _ _ _ _ c.in_ok-sort.ensures.permutation
-    (rw c.as_slice-2.ensures.value at c.in_ok-self-inside.ensures.odd) (c.loop-bound.invariant.told ranges active))
+    (rw c.as_slice-2.ensures.value at c.in_ok-odd.ensures.odd) (c.loop-bound.invariant.told ranges active)))
