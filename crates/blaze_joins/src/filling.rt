@@ -1,12 +1,11 @@
 //! Maps without gaps.
-ghost use Rattle.std.specs.Prelude.{◌≡◌, ℤ, pos, ◌-ℤ◌, ◌≤ℤ◌, ◌<ℤ◌};
-ghost use Rattle.std.specs.Prelude.{Option, Some, None, IfOk, OnOk, true};
+ghost use Rattle.std.specs.Prelude.{◌≡◌, ◌++◌, Some, IfOk, OnOk};
 ghost use Rattle.std.specs.Option.{option_eq};
 ghost use Rattle.number_line.specs.Merged.{FirstStays};
+ghost use Rattle.number_line.specs.Parts.{ArePairClones};
 ghost use Rattle.number_line.specs.Valued.{value_at, IsCanonicalMap, HasValues};
-ghost use Rattle.range_map.specs.Range.{in_numbers};
-ghost use Rattle.range_map.specs.Sweep.{EndBelow, IsLabelled};
-ghost use Rattle.blaze_joins.specs.Filled.{IsOptionClone};
+ghost use Rattle.range_map.specs.Valued.{pairs_in_numbers, AreValuedRanges};
+ghost use Rattle.blaze_joins.specs.Filled.{IsOptionClone, gap_before, with_gaps};
 ghost use Rattle.ordered_lists.specs.Taken.{ClonesAreEqual};
 
 use crate::map::RangeMapBlaze;
@@ -14,21 +13,17 @@ use element_core::{Element, NoMemory, is_below};
 use range_map::{Range, RangeMap};
 use std::alloc::Global;
 
-// Gives `None` to the keys from `start` to below `range`, if there are any.
-fn push_gap<T: Element, V: Eq + Clone + Drop>(
-    filled: &mut RangeMap<T, Option<V>>,
+// Puts the keys from `start` to below `range` with `None` behind the others, if there are any.
+fn push_gap<T: Element, V: Drop>(
+    filled: &mut Vec<(Range<T>, Option<V>)>,
     start: T,
     range: &Range<T>,
 ) -> Result<(), NoMemory>
-    requires end_below { EndBelow (T.numbers.number start) filled.old }
-    requires no_later { T.numbers.number start ≤ℤ T.numbers.number range.now.0 }
-    ensures labelled { OnOk result (IsLabelled (option_eq V.eq) filled.old
-        (T.numbers.number start, T.numbers.number range.now.0 -ℤ pos 1) (Some None) filled.new) }
-    ensures first_stays { OnOk result ((due : ℤ → Option (Option V))
-        → (T.numbers.number start <ℤ T.numbers.number range.now.0
-        → due (T.numbers.number start) ≡ Some None)
-        → FirstStays (IsOptionClone V.is_clone) due filled.old
-        → FirstStays (IsOptionClone V.is_clone) due filled.new) }
+    requires { AreValuedRanges T.numbers filled.old.items }
+    ensures ranges { OnOk result (AreValuedRanges T.numbers filled.new.items) }
+    ensures list { OnOk result (pairs_in_numbers T.numbers filled.new.items
+        ≡ pairs_in_numbers T.numbers filled.old.items
+        ++ gap_before (T.numbers.number start) (T.numbers.number range.now.0)) }
 {
     start.in_type();
     if !is_below(start, range.start()) {
@@ -37,10 +32,39 @@ fn push_gap<T: Element, V: Eq + Clone + Drop>(
     match range.start().predecessor() {
         None => Ok(()),
         Some(end) => {
-            filled.push(Range::new(start, end), None)?;
+            filled.push((Range::new(start, end), None))?;
             Ok(())
         }
     }
+}
+
+// Returns the ranges with clones of their values, and the gaps before, between and behind them with
+// `None`.
+fn clones_and_gaps<T: Element, V: Eq + Clone + Drop>(
+    alloc: Global,
+    pairs: &[(Range<T>, V)],
+) -> Result<Vec<(Range<T>, Option<V>)>, NoMemory>
+    requires { IsCanonicalMap V.eq T.numbers.least T.numbers.greatest
+        (pairs_in_numbers T.numbers pairs.now) }
+    ensures ranges { IfOk result (λ filled. AreValuedRanges T.numbers filled.items) }
+    ensures clones { IfOk result (λ filled. ArePairClones (IsOptionClone V.is_clone)
+        (with_gaps T.numbers.least T.numbers.greatest (pairs_in_numbers T.numbers pairs.now))
+        (pairs_in_numbers T.numbers filled.items)) }
+{
+    let most = pairs.len().saturating_mul(2).saturating_add(1);
+    let mut filled = Vec::with_capacity(alloc, most)?;
+    let mut start = T::min_value();
+    for pair in pairs {
+        push_gap(&mut filled, start, &pair.0)?;
+        filled.push((pair.0, Some(pair.1.clone()?)))?;
+        match pair.0.end().successor() {
+            Some(next) => start = next,
+            None => return Ok(filled),
+        }
+    }
+    start.in_type();
+    filled.push((Range::new(start, T::max_value()), None))?;
+    Ok(filled)
 }
 
 impl<T: Element, V: Eq + Clone + Drop> RangeMapBlaze<T, V> {
@@ -55,25 +79,9 @@ impl<T: Element, V: Eq + Clone + Drop> RangeMapBlaze<T, V> {
         ensures first_stays { IfOk result
             (FirstStays (IsOptionClone V.is_clone) (λ x. Some (value_at self.now x))) }
     {
-        let pairs = self.map.as_slice();
-        let most = pairs.len().saturating_mul(2).saturating_add(1);
-        let mut map = RangeMap::with_capacity(alloc, most)?;
-        let mut start = T::min_value();
-        for pair in pairs {
-            push_gap(&mut map, start, &pair.0)?;
-            map.push(pair.0, Some(pair.1.clone()?))?;
-            match pair.0.end().successor() {
-                Some(next) => start = next,
-                None => {
-                    // This tells that the ranges are canonical; so it does below.
-                    map.as_slice();
-                    return Ok(RangeMapBlaze { map });
-                }
-            }
-        }
-        start.in_type();
-        map.push(Range::new(start, T::max_value()), None)?;
-        map.as_slice();
-        Ok(RangeMapBlaze { map })
+        let filled = clones_and_gaps(alloc, self.map.as_slice())?;
+        Ok(RangeMapBlaze {
+            map: RangeMap::from_canonical(filled),
+        })
     }
 }
