@@ -17,4 +17,6 @@ pub returns-clause-equal : goal.returns-clause-equal
 returns-clause-equal g c = clones_same g.V.Clone.is_clone g.V.PartialEq.eq c.requires _ _ (returns-clause-clones g c)
 
 pub returns-clause-canonical : goal.returns-clause-canonical
-returns-clause-canonical g c = rw c.from_canonical.ensures (from_canonical-requires g c).canonical
+returns-clause-canonical g c =
+    let same = clones_same g.V.Clone.is_clone g.V.PartialEq.eq c.requires _ _ (rw c.as_slice.ensures.list at c.in_ok-pairs.ensures.clones) in
+    rw c.from_canonical.ensures (canonical_same g.V.PartialEq.eq g.met.V.Eq.laws _ _ _ _ same c.as_slice.ensures.canonical)
