@@ -6,11 +6,15 @@ use Rattle.std.proofs.lemmas.Int.{ints}
 use Rattle.std.proofs.lemmas.List.{reverse-append}
 use Rattle.number_line.specs.Ranges.{lies_in}
 use Rattle.number_line.specs.Rows.{with_places, value_of_place, segment_of}
+use Rattle.number_line.specs.Segments.{segments}
 use Rattle.number_line.specs.Valued.{value_at, IsCanonicalMap, HasValues}
+use Rattle.number_line.proofs.CoverLemmas.{fewest}
 use Rattle.number_line.proofs.PlacedLemmas.{by_cases}
 use Rattle.number_line.proofs.RowLemmas.{total_is_segments}
+use Rattle.number_line.proofs.SegmentLemmas.{segments_cut}
 use Rattle.range_map.proofs.GrowthLemmas.{value_of_pair, value_at-push}
 use Rattle.blaze_joins.specs.LastValue.{last_value_at}
+use Rattle.rule_table.specs.Laws.{FewestSegments}
 use Rattle.rule_table.specs.Rules.{winner, decision_at}
 use Rattle.rule_table.specs.Decisions.{same_decision, decision_segments}
 use Rattle.rule_table.specs.declared.rule.Decision.{Decision}
@@ -91,3 +95,12 @@ rows_are_segments same one rules decisions rows h c v =
     let v' : option_eq (option_eq same_decision) (value_at rows x) (Some (value_at decisions x)) ≡ true =
     subst (λ t. option_eq (option_eq t) (value_at rows x) (Some (value_at decisions x)) ≡ true) one (v x low high) in
     rw (decision_is_last rules x, ← slot_is (value_at decisions x) (last_value_at rules x) h') v')
+
+pub fewest_segments : (rules : List ((ℤ × ℤ) × Decision)) → FewestSegments rules
+unfolding decision_segments
+fewest_segments rules =
+    let same = option_eq same_decision in
+    let made = segments same (decision_at rules) (pos 0) (2 ^ 32 - 1) in
+    let last = pos (2 ^ 32 - 1) in
+    let c = segments_cut same (decision_at rules) last (pos 0) (2 ^ 32 - 1) (omega (arith, ints)) in
+    record { cut = c; fewest = λ cover d. fewest same slot_itself (decision_at rules) last (pos 0) made cover c d }

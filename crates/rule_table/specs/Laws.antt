@@ -1,11 +1,15 @@
--- What holds of tilings, of the winner and of dead rules.
-use Rattle.std.specs.Prelude.{◌≡◌, ℕ, ◌+◌, ◌/◌, ◌<◌, ◌≤◌, ◌↔◌, ℤ, true, List, length, Some, None, slice_get}
+-- What holds of tilings, of the winner, of dead rules and of the segments.
+use Rattle.std.specs.Prelude.{◌≡◌, ℕ, ◌+◌, ◌-◌, ◌/◌, ◌^◌, ◌<◌, ◌≤◌, ◌↔◌, ℤ, pos, true, List, length, Some, None, slice_get}
 use Rattle.std.specs.Bool.{MatchBool}
+use Rattle.std.specs.Option.{option_eq}
 use Rattle.number_line.specs.Ranges.{lies_in}
+use Rattle.number_line.specs.Segments.{IsCut, IsCover}
 use Rattle.rule_table.specs.Blocks.{size, IsBlock, Tiles, IsTiling}
 use Rattle.rule_table.specs.Tiling.{tiling}
-use Rattle.rule_table.specs.Rules.{winner, IsDead, Wins}
+use Rattle.rule_table.specs.Rules.{winner, decision_at, IsDead, Wins}
 use Rattle.rule_table.specs.Dead.{is_dead}
+use Rattle.rule_table.specs.Decisions.{same_decision, decision_segments}
+use Rattle.rule_table.specs.declared.rule.Decision.{Decision}
 
 -- no list of blocks that tiles the addresses from `first` to `last` is shorter than the tiling
 abbrev pub FewestBlocks : Type 0
@@ -19,6 +23,16 @@ TilingTiles = (first last : ℕ) → first ≤ last → IsTiling (last + 1) firs
 -- a block A/n holds the numbers that agree with A in all but the lowest 32 - n bits
 abbrev pub BlockHoldsAgreeing : Type 0
 BlockHoldsAgreeing = (a n x : ℕ) → IsBlock (a, n) → ((a ≤ x) × (x < a + size n)) ↔ (x / size n ≡ a / size n)
+
+-- the segments cut all addresses where the decision changes, and nowhere else; and no split of all addresses into ranges, in each of which one
+-- decision holds throughout, is shorter
+pub record FewestSegments (rules : List ((ℤ × ℤ) × Decision)) : Type 0 where
+  pub cut : IsCut (option_eq same_decision) (decision_at rules) (pos (2 ^ 32 - 1)) (pos 0) (decision_segments rules)
+  pub fewest : (cover : List (ℤ × ℤ)) → IsCover (decision_at rules) (pos (2 ^ 32 - 1)) (pos 0) cover
+      → length (decision_segments rules) ≤ length cover
+
+abbrev pub SegmentsAreFewest : Type 0
+SegmentsAreFewest = (rules : List ((ℤ × ℤ) × Decision)) → FewestSegments rules
 
 module _ (D : Type 0) where
   -- i is the greatest place of a rule that holds x

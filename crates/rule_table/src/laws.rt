@@ -1,6 +1,6 @@
 //! What holds of the definitions, for any rules. Each function does nothing: its contract is the
 //! law.
-ghost use Rattle.rule_table.specs.Laws.{FewestBlocks, TilingTiles, BlockHoldsAgreeing, WinnerIsGreatest, DeadWinsNowhere};
+ghost use Rattle.rule_table.specs.Laws.{FewestBlocks, TilingTiles, BlockHoldsAgreeing, WinnerIsGreatest, DeadWinsNowhere, SegmentsAreFewest};
 ghost use Rattle.rule_table.specs.declared.rule.Decision.{Decision};
 
 /// No list of blocks that tiles a stretch of addresses in order is shorter than the tiling by
@@ -29,4 +29,11 @@ pub fn winner_is_greatest()
 /// A rule is dead exactly where it is the winner of no address.
 pub fn dead_wins_nowhere()
     ensures { DeadWinsNowhere Decision }
+{}
+
+/// The segments cover all addresses in order, without gap or overlap, and neighbours differ in
+/// their decisions. They are the fewest: no list of ranges that covers all addresses so, and has
+/// one decision throughout each range, is shorter.
+pub fn fewest_segments()
+    ensures { SegmentsAreFewest }
 {}
