@@ -24,8 +24,8 @@ TilingTiles = (first last : ℕ) → first ≤ last → IsTiling (last + 1) firs
 abbrev pub BlockHoldsAgreeing : Type 0
 BlockHoldsAgreeing = (a n x : ℕ) → IsBlock (a, n) → ((a ≤ x) × (x < a + size n)) ↔ (x / size n ≡ a / size n)
 
--- the segments cut all addresses where the decision changes, and nowhere else; and no split of all addresses into ranges, in each of which one
--- decision holds throughout, is shorter
+-- the segments cut all addresses where the decision changes, and nowhere else; and no split of all addresses into ranges, with one
+-- decision throughout each, is shorter
 pub record FewestSegments (rules : List ((ℤ × ℤ) × Decision)) : Type 0 where
   pub cut : IsCut (option_eq same_decision) (decision_at rules) (pos (2 ^ 32 - 1)) (pos 0) (decision_segments rules)
   pub fewest : (cover : List (ℤ × ℤ)) → IsCover (decision_at rules) (pos (2 ^ 32 - 1)) (pos 0) cover
