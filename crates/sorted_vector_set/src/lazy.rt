@@ -110,3 +110,33 @@ pub(crate) fn sum_of(m: usize, n: usize) -> Option<usize>
 {
     m.checked_add(n)
 }
+
+// The same walk, as far as it has come.
+pub(crate) fn copy_of<'a, T: Ord>(sides: &TwoSets<'a, T>) -> TwoSets<'a, T>
+    requires { AreSides T.cmp sides.now }
+    ensures left { left_of result.left ≡ left_of sides.now.left }
+    ensures right { left_of result.right ≡ left_of sides.now.right }
+    ensures sides { AreSides T.cmp result }
+{
+    Sides {
+        left: copy_of_side(&sides.left),
+        right: copy_of_side(&sides.right),
+    }
+}
+
+// One side of such a walk.
+fn copy_of_side<'a, T: Ord>(side: &Ahead<Iter<'a, T>>) -> Ahead<Iter<'a, T>>
+    requires { IsSide T.cmp side.now }
+    ensures left { left_of result ≡ left_of side.now }
+    ensures side { IsSide T.cmp result }
+{
+    let head = match &side.head {
+        Head::Held(item) => Head::Held(*item),
+        Head::Unread => Head::Unread,
+        Head::Ended => Head::Ended,
+    };
+    Ahead {
+        source: side.source.as_slice().iter(),
+        head,
+    }
+}

@@ -71,6 +71,54 @@ fn a_stream_may_be_dropped_after_one_item(rt: HostRuntime) -> Result<(), Fail> {
 }
 
 #[test]
+fn a_clone_of_a_union_gives_the_same_rest(rt: HostRuntime) -> Result<(), Fail> {
+    let first = set_of(rt.alloc(), &FIRST)?;
+    let second = set_of(rt.alloc(), &SECOND)?;
+    let mut either = first.union(&second);
+    either.next();
+    let rest = listed(rt.alloc(), either.clone()?)?;
+    assert_eq!(rt; rest.as_slice(), [2, 3, 4, 5, 6, 7, 8, 9, 10].as_slice());
+    assert_eq!(rt; either.next().copied(), Some(2));
+    Ok(())
+}
+
+#[test]
+fn a_clone_of_an_intersection_gives_the_same_rest(rt: HostRuntime) -> Result<(), Fail> {
+    let first = set_of(rt.alloc(), &FIRST)?;
+    let second = set_of(rt.alloc(), &SECOND)?;
+    let mut shared = first.intersection(&second);
+    shared.next();
+    let rest = listed(rt.alloc(), shared.clone()?)?;
+    assert_eq!(rt; rest.as_slice(), [5, 6, 7].as_slice());
+    assert_eq!(rt; shared.next().copied(), Some(5));
+    Ok(())
+}
+
+#[test]
+fn a_clone_of_a_difference_gives_the_same_rest(rt: HostRuntime) -> Result<(), Fail> {
+    let first = set_of(rt.alloc(), &FIRST)?;
+    let second = set_of(rt.alloc(), &SECOND)?;
+    let mut missing = first.difference(&second);
+    missing.next();
+    let rest = listed(rt.alloc(), missing.clone()?)?;
+    assert_eq!(rt; rest.as_slice(), [3, 9].as_slice());
+    assert_eq!(rt; missing.next().copied(), Some(3));
+    Ok(())
+}
+
+#[test]
+fn a_clone_of_a_symmetric_difference_gives_the_same_rest(rt: HostRuntime) -> Result<(), Fail> {
+    let first = set_of(rt.alloc(), &FIRST)?;
+    let second = set_of(rt.alloc(), &SECOND)?;
+    let mut apart = first.symmetric_difference(&second);
+    apart.next();
+    let rest = listed(rt.alloc(), apart.clone()?)?;
+    assert_eq!(rt; rest.as_slice(), [2, 3, 8, 9, 10].as_slice());
+    assert_eq!(rt; apart.next().copied(), Some(2));
+    Ok(())
+}
+
+#[test]
 fn hints_go_by_the_lengths_that_are_left(rt: HostRuntime) -> Result<(), Fail> {
     let first = set_of(rt.alloc(), &FIRST)?;
     let second = set_of(rt.alloc(), &[4, 10])?;

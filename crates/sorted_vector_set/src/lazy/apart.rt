@@ -1,13 +1,14 @@
 //! The lazy symmetric difference of two sets.
-ghost use Rattle.std.specs.Prelude.{◌≡◌, IfSome, length, Some};
+ghost use Rattle.std.specs.Prelude.{◌≡◌, ⊤, IfSome, length, Some};
 ghost use Rattle.std.specs.Iterator.{YieldsFirstBy, UpTo, item_count};
 ghost use Rattle.std.specs.Iterator.SizeHint.{IsWithinCount};
 ghost use Rattle.std.specs.Map.Iter.{deref};
 ghost use Rattle.sorted_iter.specs.Hints.{sum_where_known};
 ghost use Rattle.sorted_vector_set.specs.Lazy.{symmetric_difference_to_come};
 
-use crate::lazy::{TwoSets, count_left, sum_of};
+use crate::lazy::{TwoSets, copy_of, count_left, sum_of};
 use sorted_iter::Wants;
+use std::alloc::AllocError;
 use std::marker::Model;
 
 /// The items to come of either set to which no item of the other is equal, ascending.
@@ -28,6 +29,17 @@ impl<'a, T: Ord> Model for SymmetricDifference<'a, T> {
     ghost view = { λ s. record { own = left_of s.sides.left; other = left_of s.sides.right } };
 
     ghost invariant = { λ s. AreSides T.cmp s.sides };
+}
+
+impl<'a, T: Ord> Clone for SymmetricDifference<'a, T> {
+    ghost is_clone = { λ stream copy. copy ≡ stream };
+
+    ghost is_infallible = { λ _. ⊤ };
+
+    fn clone(&self) -> Result<Self, AllocError> {
+        let sides = copy_of(&self.sides);
+        Ok(SymmetricDifference { sides })
+    }
 }
 
 impl<'a, T: Ord> Iterator for SymmetricDifference<'a, T> {

@@ -1,5 +1,5 @@
 //! The lazy union of two sets.
-ghost use Rattle.std.specs.Prelude.{◌≡◌, IfSome, length};
+ghost use Rattle.std.specs.Prelude.{◌≡◌, ⊤, IfSome, length};
 ghost use Rattle.std.specs.Iterator.{YieldsFirstBy, UpTo, item_count};
 ghost use Rattle.std.specs.Iterator.SizeHint.{IsWithinCount};
 ghost use Rattle.std.specs.Map.Iter.{deref};
@@ -7,8 +7,9 @@ ghost use Rattle.sorted_iter.specs.Hints.{union_hint};
 ghost use Rattle.sorted_vector_set.specs.Hints.{exactly};
 ghost use Rattle.sorted_vector_set.specs.Lazy.{union_to_come};
 
-use crate::lazy::{TwoSets, count_left, sum_of};
+use crate::lazy::{TwoSets, copy_of, count_left, sum_of};
 use sorted_iter::Wants;
+use std::alloc::AllocError;
 use std::marker::Model;
 
 /// The items of either set that are to come, ascending and each once; of two equal items that of
@@ -30,6 +31,17 @@ impl<'a, T: Ord> Model for Union<'a, T> {
     ghost view = { λ s. record { own = left_of s.sides.right; other = left_of s.sides.left } };
 
     ghost invariant = { λ s. AreSides T.cmp s.sides };
+}
+
+impl<'a, T: Ord> Clone for Union<'a, T> {
+    ghost is_clone = { λ stream copy. copy ≡ stream };
+
+    ghost is_infallible = { λ _. ⊤ };
+
+    fn clone(&self) -> Result<Self, AllocError> {
+        let sides = copy_of(&self.sides);
+        Ok(Union { sides })
+    }
 }
 
 impl<'a, T: Ord> Iterator for Union<'a, T> {

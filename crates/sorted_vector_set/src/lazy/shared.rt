@@ -1,5 +1,5 @@
 //! The lazy intersection of two sets.
-ghost use Rattle.std.specs.Prelude.{◌≡◌, IfSome, length};
+ghost use Rattle.std.specs.Prelude.{◌≡◌, ⊤, IfSome, length};
 ghost use Rattle.std.specs.Iterator.{YieldsFirstBy, UpTo, item_count};
 ghost use Rattle.std.specs.Iterator.SizeHint.{IsWithinCount};
 ghost use Rattle.std.specs.Map.Iter.{deref};
@@ -7,8 +7,9 @@ ghost use Rattle.sorted_iter.specs.Hints.{intersection_hint};
 ghost use Rattle.sorted_vector_set.specs.Hints.{exactly};
 ghost use Rattle.sorted_vector_set.specs.Lazy.{intersection_to_come};
 
-use crate::lazy::{TwoSets, count_left};
+use crate::lazy::{TwoSets, copy_of, count_left};
 use sorted_iter::Wants;
+use std::alloc::AllocError;
 use std::marker::Model;
 
 /// The items to come of a set to which an item of the other set is equal, ascending.
@@ -29,6 +30,17 @@ impl<'a, T: Ord> Model for Intersection<'a, T> {
     ghost view = { λ s. record { own = left_of s.sides.left; other = left_of s.sides.right } };
 
     ghost invariant = { λ s. AreSides T.cmp s.sides };
+}
+
+impl<'a, T: Ord> Clone for Intersection<'a, T> {
+    ghost is_clone = { λ stream copy. copy ≡ stream };
+
+    ghost is_infallible = { λ _. ⊤ };
+
+    fn clone(&self) -> Result<Self, AllocError> {
+        let sides = copy_of(&self.sides);
+        Ok(Intersection { sides })
+    }
 }
 
 impl<'a, T: Ord> Iterator for Intersection<'a, T> {
