@@ -36,6 +36,7 @@ impl<T: Ord> SortedVectorSet<T> {
         ensures spare { length new.items ≤ 1 → self.old.spare ≤ self.new.spare + 1 }
         ensures kept_spare { (x : T) → new.items ≡ x ∷ [] → IsTrue (has T.cmp self.old.items x)
             → self.old.spare ≤ self.new.spare }
+        ensures refused_spare { OnErr result (self.old.spare ≤ self.new.spare) }
     {
         if new.len() <= 1 {
             self.extend_with_one(new)
@@ -57,6 +58,7 @@ impl<T: Ord> SortedVectorSet<T> {
             × GivesAll I.into_iter_gives I.IntoIter.next_gives iter new
             × (self.new.items ≡ sets T.cmp self.old.items new)) }
         ensures err { OnErr result (self.new.items ≡ self.old.items) }
+        ensures refused_spare { OnErr result (self.old.spare ≤ self.new.spare) }
     {
         let alloc = *self.items.allocator();
         let Ok(new) = Vec::from_iter(alloc, iter) else {
@@ -84,6 +86,7 @@ impl<T: Ord> SortedVectorSet<T> {
             × GivesAll I.into_iter_gives I.IntoIter.next_gives iter shown
             × (self.new.items ≡ sets T.cmp self.old.items (map deref shown))) }
         ensures err { OnErr result (self.new.items ≡ self.old.items) }
+        ensures refused_spare { OnErr result (self.old.spare ≤ self.new.spare) }
     {
         let alloc = *self.items.allocator();
         let mut new = Vec::new(alloc);
@@ -110,6 +113,8 @@ impl<T: Ord> SortedVectorSet<T> {
             other.old.items else self.old.items) }
         ensures other { other.new.items ≡ (if is_ok result then [] else other.old.items) }
         ensures none { self.old.items ≡ [] → IsOk result }
+        ensures refused_spare { OnErr result (self.old.spare ≤ self.new.spare) }
+        ensures other_spare { OnErr result (other.new.spare ≡ other.old.spare) }
     {
         let alloc = *other.items.allocator();
         if self.items.is_empty() {
@@ -183,6 +188,7 @@ impl<T: Ord> SortedVectorSet<T> {
         ensures spare { self.old.spare ≤ self.new.spare + 1 }
         ensures kept_spare { (x : T) → new.items ≡ x ∷ [] → IsTrue (has T.cmp self.old.items x)
             → self.old.spare ≤ self.new.spare }
+        ensures refused_spare { OnErr result (self.old.spare ≤ self.new.spare) }
     {
         let Some(item) = new.pop() else {
             return Ok(());
@@ -203,6 +209,7 @@ impl<T: Ord> SortedVectorSet<T> {
         ensures items { self.new.items ≡ (if is_ok result then sets T.cmp self.old.items new.items
             else self.old.items) }
         ensures given { IfErr result (λ refused. IsPermutation new.items refused.given.items) }
+        ensures refused_spare { OnErr result (self.old.spare ≤ self.new.spare) }
     {
         if new.sort().is_err() {
             return Err(Refused { given: new });
@@ -246,6 +253,7 @@ impl<T: Ord> SortedVectorSet<T> {
         ensures ascending { IfSome result (λ _. IsStrictlySortedBy T.cmp self.old.items) }
         ensures room { IfSome result (λ tail. vec_len tail + length new.now ≤ self.new.spare) }
         ensures none { IfNone result (self.new.items ≡ self.old.items) }
+        ensures none_spare { IfNone result (self.old.spare ≤ self.new.spare) }
     {
         let at = self.place_under(new);
         let spare = self.items.capacity().saturating_sub(self.items.len());
@@ -269,6 +277,7 @@ impl<T: Ord> SortedVectorSet<T> {
         ensures ascending { IfSome result (λ _. IsStrictlySortedBy T.cmp self.old.items) }
         ensures room { IfSome result (λ tail. vec_len tail + length new.now ≤ self.new.spare) }
         ensures none { IfNone result (self.new.items ≡ self.old.items) }
+        ensures none_spare { IfNone result (self.old.spare ≤ self.new.spare) }
     {
         let alloc = *self.items.allocator();
         let least = self.items.len().checked_add(new.len())?;

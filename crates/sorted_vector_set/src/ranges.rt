@@ -1,5 +1,5 @@
 //! Parts of a set between two items.
-ghost use Rattle.std.specs.Prelude.{◌≡◌, ◌^◌, ◌<◌, length, not, OnOk, OnErr, IfOk};
+ghost use Rattle.std.specs.Prelude.{◌≡◌, ◌≤◌, ◌^◌, ◌<◌, length, not, OnOk, OnErr, IfOk};
 ghost use Rattle.std.specs.Iterator.Adapters.{IterYieldsInOrder, IterYieldsInReverse};
 ghost use Rattle.std.specs.List.{filter};
 ghost use Rattle.std.specs.List.Sorted.{IsStrictlySortedBy};
@@ -42,6 +42,7 @@ impl<T: Ord> SortedVectorSet<T> {
         ensures from { IfOk result (λ rest. rest.items
             ≡ filter (λ x. not (is_lt (T.cmp x q.now))) self.old.items) }
         ensures err { OnErr result (self.new.items ≡ self.old.items) }
+        ensures spare { self.old.spare ≤ self.new.spare }
     {
         // The items that leave take the allocator of the set, which is the only one.
         let _ = alloc;

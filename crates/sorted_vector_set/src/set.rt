@@ -1,5 +1,5 @@
 //! The set: making one, looking into it, putting items in, and taking them out.
-ghost use Rattle.std.specs.Prelude.{Some, ◌≡◌, ◌≤◌, ◌<◌, ◌+◌, ◌-◌, ◌++◌, ◌↔◌, not, [], length, slice_get, slice_set, IsTrue, IsOk, IfOk, IfErr, IfNone, is_ok, if◌then◌else◌};
+ghost use Rattle.std.specs.Prelude.{Some, ◌≡◌, ◌≤◌, ◌<◌, ◌+◌, ◌-◌, ◌++◌, ◌↔◌, not, [], length, slice_get, slice_set, IsTrue, IsOk, IfOk, IfErr, IfNone, OnErr, is_ok, if◌then◌else◌};
 ghost use Rattle.std.specs.List.{insert as list_insert, remove as list_remove};
 ghost use Rattle.std.specs.List.Sorted.{IsStrictlySortedBy};
 ghost use Rattle.std.specs.Option.{option_copied, option_to_list};
@@ -138,6 +138,7 @@ impl<T: Ord> SortedVectorSet<T> {
         ensures spare { self.old.spare ≤ self.new.spare + 1 }
         ensures kept_spare { IsTrue (has T.cmp self.old.items value)
             → self.old.spare ≤ self.new.spare }
+        ensures refused_spare { OnErr result (self.old.spare ≤ self.new.spare) }
     {
         match self.place_of(&value) {
             Ok(at) => Ok(Some(self.replace_at(at, value))),
@@ -164,6 +165,7 @@ impl<T: Ord> SortedVectorSet<T> {
         ensures spare { self.old.spare ≤ self.new.spare + 1 }
         ensures kept_spare { IsTrue (has T.cmp self.old.items value)
             → self.old.spare ≤ self.new.spare }
+        ensures refused_spare { OnErr result (self.old.spare ≤ self.new.spare) }
     {
         let old = self.replace(value)?;
         Ok(old.is_none())
