@@ -22,10 +22,7 @@ use std::mem;
 fn compare_ranges<T: Element>(a: &Range<T>, b: &Range<T>) -> Ordering
     ensures { result ≡ range_cmp (in_numbers T.numbers a.now) (in_numbers T.numbers b.now) }
 {
-    match compare(a.start(), b.start()) {
-        Ordering::Equal => compare(a.end(), b.end()),
-        order => order,
-    }
+    compare(a.start(), b.start()).then(compare(a.end(), b.end()))
 }
 
 // Returns whether `next` overlaps `last` with another value.
