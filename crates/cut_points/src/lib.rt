@@ -10,8 +10,6 @@ mod convert;
 pub mod laws;
 mod many;
 mod operations;
-#[cfg(test)]
-mod tests;
 
 pub use convert::{contains_by_cuts, cuts, from_cut_slice, from_cuts};
 pub use many::all_cuts;

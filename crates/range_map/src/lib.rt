@@ -2,28 +2,14 @@
 //! as ranges with a value each.
 #![tactic(auto)]
 
-#[cfg(test)]
-mod callers;
-#[cfg(test)]
-mod changing_tests;
-#[cfg(test)]
-mod from_iter_tests;
 mod iterated;
 pub mod laws;
 mod map;
-#[cfg(test)]
-mod map_tests;
 #[doc(hidden)]
 pub mod pairs;
 mod range;
 mod set;
 pub mod sweep;
-#[cfg(test)]
-mod tests;
-#[cfg(test)]
-mod whole_callers;
-#[cfg(test)]
-mod whole_tests;
 
 #[doc(hidden)]
 pub use map::MapBuilder;

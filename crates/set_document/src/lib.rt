@@ -30,12 +30,3 @@ pub use number::read_number;
 pub use sample::sample_text;
 pub use truth::truths_at;
 pub use word::{Name, Word, read_word};
-
-#[cfg(test)]
-mod both_tests;
-#[cfg(test)]
-mod sample_tests;
-#[cfg(test)]
-mod table_tests;
-#[cfg(test)]
-mod tests;

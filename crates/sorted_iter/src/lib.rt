@@ -28,10 +28,3 @@ pub use crate::pairs::Pairs;
 #[doc(hidden)]
 pub use crate::sides::{Sides, Wants};
 pub use crate::streams::{Difference, Intersection, SymmetricDifference, Union};
-
-#[cfg(test)]
-mod callers;
-#[cfg(test)]
-mod stream_tests;
-#[cfg(test)]
-mod tests;

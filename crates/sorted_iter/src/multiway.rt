@@ -10,8 +10,6 @@ mod hint;
 mod make;
 mod stream;
 mod take;
-#[cfg(test)]
-mod tests;
 
 pub use heads::InputHead;
 pub use make::multiway_union;

@@ -3,5 +3,4 @@ pub mod JoinLemmas
 pub mod KeyRuns
 pub mod JoinHintLemmas
 pub mod JoinCopyLemmas
-pub mod Literals
 pub mod RefJoins

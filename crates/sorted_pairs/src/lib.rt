@@ -28,8 +28,3 @@ pub use crate::marks::{SortedByKey, SortedPairIterator};
 pub use crate::matching::EitherOrBoth;
 pub use crate::outer_join::OuterJoin;
 pub use crate::right_join::RightJoin;
-
-#[cfg(test)]
-mod callers;
-#[cfg(test)]
-mod tests;

@@ -9,8 +9,6 @@ use crate::map::SortedVectorMap;
 
 mod borrowed;
 mod iter_mut;
-#[cfg(test)]
-pub(crate) mod iter_mut_tests;
 mod owned;
 mod values_mut;
 

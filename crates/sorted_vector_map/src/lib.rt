@@ -5,8 +5,6 @@
 //! merged in.
 #![tactic(auto)]
 
-#[cfg(test)]
-mod callers;
 mod compared;
 mod entry;
 mod grow;
@@ -17,8 +15,6 @@ mod map;
 mod merge;
 mod ranges;
 mod retain;
-#[cfg(test)]
-mod tests;
 
 pub use element_core::{NoMemory, Refused};
 pub use entry::{Entry, OccupiedEntry, VacantEntry};

@@ -5,22 +5,16 @@
 //! merged in.
 #![tactic(auto)]
 
-#[cfg(test)]
-mod callers;
 mod combine;
 mod compared;
 mod grow;
 mod iters;
 mod lazy;
 mod merge;
-#[cfg(test)]
-mod pair_tests;
 mod ranges;
 mod relations;
 mod retain;
 mod set;
-#[cfg(test)]
-mod tests;
 
 pub use element_core::{NoMemory, Refused};
 pub use lazy::{Difference, Intersection, SymmetricDifference, Union};
