@@ -1,6 +1,6 @@
 -- Copies of streams: what is to come from them.
-use Rattle.std.proofs.Common.{◌≡◌, ℕ, suc, zero, Bool, true, false, cond, List, [], ◌∷◌, ◌++◌, Option, Some, None, refl, sym, ap, ap₂, subst, ◌∙◌, append-nil, map-id, inl, inr}
-use Rattle.std.specs.Iterator.{Count, IsFinite, Yields, YieldsThen, DrainsIf, AlwaysYields, size}
+use Rattle.std.proofs.Common.{◌≡◌, Bool, true, false, cond, List, [], ◌∷◌, ◌++◌, Option, Some, None, refl, sym, ap, ap₂, subst, ◌∙◌, append-nil, map-id, inl, inr}
+use Rattle.std.specs.Iterator.{Count, IsFinite, DrainsIf, AlwaysYields}
 use Rattle.std.specs.Cmp.{IsTotalOrder, IsPartialOrder}
 use Rattle.std.specs.List.{AllZip, AllByRecursion}
 use Rattle.std.specs.List.Sorted.{IsStrictlySortedBy}
@@ -13,14 +13,14 @@ use Rattle.sorted_iter.specs.declared.ahead.Ahead.{Ahead}
 use Rattle.sorted_iter.specs.declared.ahead.Head.{Head}
 use Rattle.sorted_iter.specs.declared.ahead.Head.TheVariants.{Unread, Held, Ended}
 use Rattle.sorted_iter.specs.declared.sides.Sides.{Sides}
-use Rattle.sorted_iter.specs.Orders.{Rests, StaysEnded, GivesList, Begins}
-use Rattle.sorted_iter.specs.Lookahead.{pending, is_ended, left_behind, ahead_can, ahead_left, Reads, Passes, WillGive, AheadAscends}
+use Rattle.sorted_iter.specs.Orders.{Begins}
+use Rattle.sorted_iter.specs.Lookahead.{pending, is_ended, left_behind, Reads, Passes, WillGive, AheadAscends}
 use Rattle.sorted_iter.specs.LookaheadLemmas.{reads-ended, reads-drains, passes-none}
-use Rattle.sorted_iter.specs.TwoSides.{StepsTwo, sides_can, sides_ascend}
+use Rattle.sorted_iter.specs.TwoSides.{StepsTwo}
 use Rattle.sorted_iter.specs.TwoSidesLemmas.{Through, through-always, two-always}
 use Rattle.sorted_iter.proofs.RefLists.{all_runs}
 use Rattle.ordered_lists.specs.Taken.{ClonesAreEqual}
-use Rattle.sorted_iter.specs.Copies.{GoesAlike, ClonesGoAlike, IsHeadClone, IsAheadClone, IsCopy}
+use Rattle.sorted_iter.specs.Copies.{ClonesGoAlike, IsHeadClone, IsAheadClone, IsCopy}
 
 -- lists of equal items
 module _ {A : Type 0} (R : A → A → Type 0) (itself : (x : A) → R x x) where

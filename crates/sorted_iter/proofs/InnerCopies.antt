@@ -1,6 +1,6 @@
 -- A stream that is an iterator inside, seen through a view of its items: it goes on alike where that does.
-use Rattle.std.proofs.Common.{◌≡◌, ℕ, suc, zero, Bool, true, List, [], ◌∷◌, Option, Some, None, map, refl, sym, ap, ap₂, subst, ◌∙◌}
-use Rattle.std.specs.Iterator.{Count, Yields, YieldsThen, DrainsIf}
+use Rattle.std.proofs.Common.{◌≡◌, ℕ, suc, zero, Bool, true, List, [], ◌∷◌, Option, Some, None, map, refl, ap, ap₂, subst}
+use Rattle.std.specs.Iterator.{Count, Yields, DrainsIf}
 use Rattle.sorted_iter.specs.Orders.{Rests, StaysEnded}
 use Rattle.sorted_iter.specs.Copies.{GoesAlike}
 

@@ -1,6 +1,7 @@
 pub mod TakeLemmas
 pub mod StreamLemmas
 pub mod WalkSteps
+pub mod CommonSteps
 pub mod SourceLists
 pub mod Literals
 pub mod RefLists

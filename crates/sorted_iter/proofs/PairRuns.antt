@@ -1,5 +1,5 @@
 -- What the stream of pairs gives.
-use Rattle.std.proofs.Common.{◌≡◌, true, List, [], ◌∷◌, Option, Some, None, map, refl, sym, ap, ap₂, subst, ◌∙◌}
+use Rattle.std.proofs.Common.{◌≡◌, true, List, [], ◌∷◌, Option, map, refl, sym, ap, subst, ◌∙◌}
 use Rattle.std.specs.Iterator.{Yields, DrainsIf, AlwaysYields}
 use Rattle.std.specs.Iterator.Runs.{SomeRun, EachRunFrom}
 use Rattle.std.proofs.iter.runs.Made.{run, took}

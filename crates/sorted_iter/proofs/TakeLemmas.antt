@@ -51,3 +51,13 @@ module _ {S A : Type 0} {can : S → Type 0} {left : S → Count} {steps : S →
   pub takes-ended : (r : Option A) → Takes can left steps s r t → IfNone r ((xs : List A) → MayFollow t xs → xs ≡ [])
   takes-ended None k = λ xs m. takes-none k m
   takes-ended (Some x) k = tt
+
+  -- an item that was taken, put back and taken again
+  pub takes-again : {x : A} → Takes can left steps s (Some x) t → Takes can left steps (record t { head = Held x }) (Some x) t
+  takes-again {x} k = record {
+    passed = record { read = []; calls = inl (sym (ap is_ended k.head), refl); items = sym (ap (λ h. x ∷ pending h) k.head) };
+    head = k.head;
+    callable = k.callable;
+    finite = λ f. rw k.head f;
+    counted = λ f. rw k.head (omega arith);
+  }

@@ -1,5 +1,5 @@
 -- What the first answer of a stream tells of its two sources.
-use Rattle.std.proofs.Common.{◌≡◌, Bool, true, false, not, cond, ◌&&◌, List, [], ◌∷◌, ◌++◌, Option, Some, None, is_some, refl, sym, ap, subst, ◌∙◌, true≢false}
+use Rattle.std.proofs.Common.{◌≡◌, Bool, true, false, not, cond, ◌&&◌, List, [], ◌∷◌, Option, Some, None, is_some, refl, sym, ap, subst, ◌∙◌, true≢false}
 use Rattle.std.specs.Iterator.{AlwaysYields}
 use Rattle.std.specs.List.{filter, list_all}
 use Rattle.std.specs.declared.cmp.Ordering.{Ordering}

@@ -1,5 +1,5 @@
 -- A call of `next` on two sides, turn by turn of its loop.
-use Rattle.std.proofs.Common.{◌≡◌, ◌≤◌, Bool, true, false, cond, List, [], ◌∷◌, ◌++◌, Option, Some, None, IfNone, option_to_list, refl, sym, ap, ap₂, subst, ◌∙◌, arith}
+use Rattle.std.proofs.Common.{◌≡◌, ◌≤◌, ◌+◌, ℕ, Bool, true, false, cond, List, [], ◌∷◌, ◌++◌, Option, Some, None, IfNone, option_to_list, refl, sym, ap, ap₂, subst, ◌∙◌, arith}
 use Rattle.std.specs.Iterator.{Count, size}
 use Rattle.std.specs.declared.cmp.Ordering.{Ordering}
 use Rattle.std.specs.declared.cmp.Ordering.TheVariants.{Less, Equal, Greater}
@@ -8,7 +8,7 @@ use Rattle.sorted_iter.specs.declared.ahead.Ahead.{Ahead}
 use Rattle.sorted_iter.specs.declared.ahead.Head.TheVariants.{Held}
 use Rattle.sorted_iter.specs.declared.sides.Sides.{Sides}
 use Rattle.sorted_iter.specs.declared.sides.Wants.{Wants}
-use Rattle.sorted_iter.specs.Lookahead.{pending, ahead_left, Takes, MayFollow}
+use Rattle.sorted_iter.specs.Lookahead.{pending, ahead_left, Takes, MayFollow, Passes}
 use Rattle.sorted_iter.specs.LookaheadLemmas.{passes-none}
 use Rattle.sorted_iter.specs.TwoSides.{Gives, StepsTwo, IsSpent, sides_can}
 use Rattle.sorted_iter.specs.TwoSidesLemmas.{gives-none, gives-append}
@@ -20,6 +20,10 @@ pub record Walked {S T A : Type 0} (cmp : A → A → Ordering) (can : S → Typ
   pub again : sides_can can left can' left' t
   pub left_falls : size (ahead_left left t.left) ≤ size (ahead_left left s.left)
   pub right_falls : size (ahead_left left' t.right) ≤ size (ahead_left left' s.right)
+
+-- how many items both sides have left, at most
+abbrev pub items_left : {S T A : Type 0} → (S → Count) → (T → Count) → Sides S T A A → ℕ
+items_left left left' t = size (ahead_left left t.left) + size (ahead_left left' t.right)
 
 -- the walk of a list and an empty one
 walk-nil : {A : Type 0} (cmp : A → A → Ordering) (left both right : Bool) (xs : List A) → walk cmp left both right xs [] ≡ cond left xs []
@@ -69,10 +73,16 @@ module _ {S T A : Type 0} (cmp : A → A → Ordering) (can : S → Type 0) (lef
             ∙ sym (ap (λ z. option_to_list r ++ z) (nil-walk cmp wants.left wants.both wants.right xs ys (takes-none a i) ∙ ap (λ k. cond k ys []) e));
       }) (spent-on u r (takes-ended r b))
 
-      -- the left side has ended, and right items aren't wanted
+      -- the left side has ended, and right items aren't wanted: some may have been passed
+      pub left-ended_past : {u : Ahead T A} {vs : List A} → Passes seconds m.right vs u → wants.right ≡ false → StepsTwo op firsts seconds s None (record { left = l; right = u })
+      left-ended_past {u} {vs} p e =
+          let nil : (xs ys : List A) → MayFollow l xs → op xs ys ≡ []
+          = λ xs ys i. nil-walk cmp wants.left wants.both wants.right xs ys (takes-none a i) ∙ ap (λ k. cond k ys []) e in
+          steps-of None (record { us = []; vs = vs; passed_left = a.passed; passed_right = p; gave = λ xs ys i j. nil xs (vs ++ ys) i ∙ sym (nil xs ys i) })
+          (λ xs ys i j. nil xs ys i)
+
       pub left-ended_all : wants.right ≡ false → StepsTwo op firsts seconds s None (record { left = l; right = m.right })
-      left-ended_all e = steps-of None (record { us = []; vs = []; passed_left = a.passed; passed_right = passes-none m.right; gave = λ xs ys i j. refl })
-          (λ xs ys i j. nil-walk cmp wants.left wants.both wants.right xs ys (takes-none a i) ∙ ap (λ k. cond k ys []) e)
+      left-ended_all e = left-ended_past (passes-none m.right) e
 
     module _ {l : Ahead S A} {x : A} (a : Takes can left firsts m.left (Some x) l) where
       module _ {u : Ahead T A} (b : Takes can' left' seconds m.right None u) where

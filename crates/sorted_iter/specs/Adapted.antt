@@ -1,11 +1,11 @@
 -- What std's adapters do with the items of their source, as their laws are built on it.
-use Rattle.std.proofs.Common.{◌≡◌, ◌⊎◌, inl, inr, ◌<◌, Bool, true, false, List, [], ◌∷◌, Option, Some, None, MatchOption, refl, sym, ap, subst, ◌∙◌, true≢false}
+use Rattle.std.proofs.Common.{◌≡◌, ◌⊎◌, inl, inr, Bool, true, false, List, [], Option, Some, None, MatchOption, refl, sym, ap, subst, ◌∙◌, true≢false}
 use Rattle.std.specs.Prelude.{IsSomeAnd, ⊤}
 use Rattle.std.specs.Bool.{MatchBool}
 use Rattle.std.specs.Borrow.{Bor}
 use Rattle.std.specs.Fn.{Mut, CalledAt}
 use Rattle.std.specs.Iterator.{YieldsThen}
-use Rattle.std.specs.Iterator.Adapters.{skip_steps, skip_source, filter_steps, filter_source, take_while_steps, take_while_source, take_while_done, take_while_callee, copied_steps, copied_source, cloned_steps, cloned_source, map_steps, map_source, fuse_steps, fuse_source, fuse_done, take_steps, take_source, take_count}
+use Rattle.std.specs.Iterator.Adapters.{skip_steps, skip_source, filter_steps, filter_source, take_while_steps, take_while_source, take_while_done, take_while_callee, copied_steps, copied_source, cloned_steps, cloned_source, map_steps, map_source, fuse_steps, fuse_source, fuse_done, take_steps, take_source}
 use Rattle.std.specs.Option.{option_copied}
 use Rattle.std.specs.declared.iter.Skip.{Skip}
 use Rattle.std.specs.declared.iter.Filter.{Filter}
@@ -17,7 +17,7 @@ use Rattle.std.specs.declared.iter.Fuse.{Fuse}
 use Rattle.std.specs.declared.iter.Take.{Take}
 use Rattle.std.specs.declared.cmp.Ordering.{Ordering}
 use Rattle.sorted_iter.specs.Orders.{InOrder, AtMostOne}
-use Rattle.sorted_iter.specs.AdapterLaws.{Calls, calls-keep, calls-of_items, adapted-one, adapted-in_order, shut-one, one-in_order}
+use Rattle.sorted_iter.specs.AdapterLaws.{calls-keep, calls-of_items, adapted-one, adapted-in_order, shut-one, one-in_order}
 
 -- one call of the source
 once : {S A : Type 0} (steps : S → Option A → S → Type 0) (s : S) (x : Option A) (t : S) → steps s x t → YieldsThen steps s [] x t

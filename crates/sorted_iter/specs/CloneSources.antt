@@ -1,16 +1,16 @@
 -- When the clones of an iterator give what the iterator gives: what a caller cites at `try_clone`.
-use Rattle.std.proofs.Common.{◌≡◌, ℕ, suc, zero, Bool, true, List, [], ◌∷◌, Option, Some, None, MatchOption, length, refl, sym, ap, subst, ◌∙◌}
-use Rattle.std.specs.Iterator.{Count, IsFinite, at_most, Yields, YieldsThen, DrainsIf}
+use Rattle.std.proofs.Common.{◌≡◌, ℕ, suc, zero, List, [], ◌∷◌, Option, Some, None, length, refl, sym, ap, subst, ◌∙◌}
+use Rattle.std.specs.Iterator.{Count, IsFinite, Yields}
 use Rattle.std.specs.Iterator.Adapters.{copied_steps, copied_source}
 use Rattle.std.specs.Slice.Iter.{iter_rest, iter_steps}
 use Rattle.std.specs.Borrow.{Bor}
 use Rattle.std.specs.declared.slice.Iter.{Iter}
 use Rattle.std.specs.declared.iter.Copied.{Copied}
-use Rattle.sorted_iter.specs.Orders.{Rests, StaysEnded}
+use Rattle.sorted_iter.specs.Orders.{Rests}
 use Rattle.std.specs.Option.{option_copied}
 use Rattle.sorted_iter.specs.declared.marks.AssumeSortedByItem.{AssumeSortedByItem}
 use Rattle.sorted_iter.specs.Streams.{assumed_source, assumed_steps}
-use Rattle.sorted_iter.specs.Copies.{GoesAlike, ClonesGoAlike}
+use Rattle.sorted_iter.specs.Copies.{ClonesGoAlike}
 
 -- whatever a call on a clone does, a call on its source may do, and what they leave are a clone and its source again
 module _ {S A : Type 0} (clones : S → S → Type 0) (can : S → Type 0) (left : S → Count) (steps : S → Option A → S → Type 0)

@@ -1,6 +1,6 @@
 -- Copies of iterators and of streams.
-use Rattle.std.specs.Prelude.{◌≡◌, ℕ, Bool, true, List, Option, Some, None}
-use Rattle.std.specs.Iterator.{Count, IsFinite, YieldsThen, DrainsIf}
+use Rattle.std.specs.Prelude.{◌≡◌, Bool, true, List, Option}
+use Rattle.std.specs.Iterator.{Count, IsFinite, DrainsIf}
 use Rattle.std.specs.List.{AllZip}
 use Rattle.std.specs.List.Sorted.{IsStrictlySortedBy}
 use Rattle.std.specs.declared.cmp.Ordering.{Ordering}

@@ -1,5 +1,5 @@
 -- Hints of how many items are to come: a lower bound, and an upper one where it is known.
-use Rattle.std.specs.Prelude.{◌≡◌, ℕ, ◌+◌, ◌-◌, ◌^◌, ◌≤◌, ◌<◌, min, max, Bool, false, List, length, Option, Some, None, IfSome, if◌then◌else◌, nat_lt}
+use Rattle.std.specs.Prelude.{◌≡◌, ℕ, ◌+◌, ◌-◌, ◌^◌, ◌≤◌, min, max, false, List, length, Option, Some, None, IfSome, if◌then◌else◌, nat_lt}
 use Rattle.std.specs.Iterator.{Count, UpTo}
 use Rattle.std.specs.Iterator.SizeHint.{IsWithinCount}
 use Rattle.std.specs.List.Sorted.{IsStrictlySortedBy}
@@ -7,7 +7,6 @@ use Rattle.std.specs.declared.cmp.Ordering.{Ordering}
 use Rattle.sorted_iter.specs.declared.ahead.Head.{Head}
 use Rattle.sorted_iter.specs.declared.ahead.Head.TheVariants.{Unread, Held, Ended}
 use Rattle.sorted_iter.specs.declared.sides.Sides.{Sides}
-use Rattle.sorted_iter.specs.Orders.{GivesList}
 use Rattle.sorted_iter.specs.Lookahead.{is_ended, WillGive}
 
 -- the two bounds

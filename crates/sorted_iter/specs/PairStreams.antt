@@ -1,5 +1,5 @@
 -- The stream of the pairs of an item and `()`.
-use Rattle.std.specs.Prelude.{◌≡◌, List, Option, map}
+use Rattle.std.specs.Prelude.{Option}
 use Rattle.std.specs.Option.{option_map}
 use Rattle.sorted_iter.specs.declared.pairs.Pairs.{Pairs}
 

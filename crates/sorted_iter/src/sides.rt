@@ -1,5 +1,5 @@
 //! The walk along two ascending sources, which the four streams share.
-ghost use Rattle.std.specs.Prelude.{◌≡◌, IfOk};
+ghost use Rattle.std.specs.Prelude.{◌≡◌, IfOk, true, false};
 ghost use Rattle.ordered_lists.specs.Walks.{walk};
 ghost use Rattle.sorted_iter.specs.Copies.{IsAheadClone};
 ghost use Rattle.sorted_iter.specs.TwoSides.{sides_of, sides_can, StepsTwo, Nears};
@@ -90,6 +90,28 @@ where
                         return Some(y);
                     }
                 }
+            }
+        }
+    }
+
+    /// Returns the next left item to which a right one is equal, as `next` does where `both` alone
+    /// is wanted, and puts no item back. It asks each source at most once for each item that it
+    /// passes over, and takes no memory of its own.
+    #[inline(always)]
+    pub fn next_common(&mut self) -> Option<I::Item>
+        requires { sides_can I.can_next I.remaining J.can_next J.remaining self.old }
+        ensures steps { StepsTwo (walk I.Item.cmp false true false) I.next_gives J.next_gives
+            self.old result self.new }
+        ensures nears { Nears I.can_next I.remaining J.can_next J.remaining
+            (record { left = false; both = true; right = false }) self.old result self.new }
+    {
+        let mut x = self.left.take()?;
+        let mut y = self.right.take()?;
+        'walk: loop {
+            match x.cmp(&y) {
+                Ordering::Less => x = self.left.take()?,
+                Ordering::Equal => return Some(x),
+                Ordering::Greater => y = self.right.take()?,
             }
         }
     }

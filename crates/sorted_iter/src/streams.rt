@@ -140,11 +140,7 @@ where
 
     #[inline]
     fn next(&mut self) -> Option<I::Item> {
-        self.sides.next(Wants {
-            left: false,
-            both: true,
-            right: false,
-        })
+        self.sides.next_common()
     }
 
     fn size_hint(&self) -> (usize, Option<usize>)

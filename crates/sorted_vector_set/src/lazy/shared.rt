@@ -8,7 +8,6 @@ ghost use Rattle.sorted_vector_set.specs.Hints.{exactly};
 ghost use Rattle.sorted_vector_set.specs.Lazy.{intersection_to_come};
 
 use crate::lazy::{TwoSets, copy_of, count_left};
-use sorted_iter::Wants;
 use std::alloc::AllocError;
 use std::marker::Model;
 
@@ -51,11 +50,7 @@ impl<'a, T: Ord> Iterator for Intersection<'a, T> {
     ghost remaining = { item_count (intersection_to_come T.cmp) };
 
     fn next(&mut self) -> Option<&'a T> {
-        self.sides.next(Wants {
-            left: false,
-            both: true,
-            right: false,
-        })
+        self.sides.next_common()
     }
 
     fn size_hint(&self) -> (usize, Option<usize>)

@@ -1,4 +1,4 @@
-use Rattle.std.proofs.Common.{true, false}
+use Rattle.std.proofs.Common.{true}
 use Rattle.ordered_lists.specs.Lists.{union}
 use Rattle.ordered_lists.proofs.WalkLemmas.{walk-union}
 use Rattle.sorted_iter.specs.Streams.{union_sides}
