@@ -3,16 +3,14 @@ ghost use Rattle.std.specs.Prelude.{◌≡◌, ℕ, ℤ, ◌≤ℤ◌, map, IfOk
 ghost use Rattle.std.specs.List.{All};
 ghost use Rattle.range_map.specs.Range.{in_numbers};
 ghost use Rattle.range_map.specs.Valued.{pairs_in_numbers};
-ghost use Rattle.range_map.specs.Sweep.{DoNotFallFrom, numbers_of};
+ghost use Rattle.range_map.specs.Sweep.{DoNotFallFrom};
 ghost use Rattle.range_map.specs.Bounds.{ranges_of, bounds_in_numbers, AreBounds};
 ghost use Rattle.range_map.specs.Bounds.{AreBoundsPushed, StartsActive};
 
 use crate::range::Range;
 use crate::sweep::active_places::ActivePlaces;
-use crate::sweep::last_place::LastPlace;
 use element_core::{Element, NoMemory, compare};
 use std::alloc::Global;
-use std::collections::BTreeSet;
 use std::marker::Model;
 
 /// The value at which the range at `place` begins, or the value behind its end.
@@ -83,21 +81,6 @@ impl<T: Element> Bounds<T> {
         Ok(Bounds { bounds })
     }
 
-    /// Returns the values at which ranges begin or have just ended, ascending, each as often as it
-    /// does. O(n) time for n bounds.
-    pub fn cuts(&self, alloc: Global) -> Result<Vec<T>, NoMemory>
-        ensures cuts { IfOk result
-            (λ cuts. numbers_of T.numbers cuts.items ≡ map (λ bound. bound.0) self.now) }
-        ensures in_order { IfOk result
-            (λ cuts. DoNotFallFrom T.numbers T.numbers.least cuts.items) }
-    {
-        let mut cuts = Vec::with_capacity(alloc, self.bounds.len())?;
-        for bound in &self.bounds {
-            cuts.push(bound.at)?;
-        }
-        Ok(cuts)
-    }
-
     /// Returns the places of the ranges that hold a number, before the least one. O(1) time, no
     /// memory.
     pub fn active(&self, alloc: Global) -> ActivePlaces<'_, T>
@@ -108,17 +91,6 @@ impl<T: Element> Bounds<T> {
             rest: self.bounds.as_slice(),
             passed: Vec::new(alloc),
             left: Vec::new(alloc),
-        }
-    }
-
-    /// Returns the greatest place of the ranges that hold a number, before the least one. O(1)
-    /// time, no memory.
-    pub fn last_place(&self, alloc: Global) -> LastPlace<'_, T>
-        ensures { StartsActive T.numbers.greatest self.now result }
-    {
-        LastPlace {
-            places: BTreeSet::new(alloc),
-            rest: self.bounds.as_slice(),
         }
     }
 }
