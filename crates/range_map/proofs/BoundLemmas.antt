@@ -4,7 +4,6 @@ use Rattle.std.specs.Prelude.{◌==◌, ℤ, pos, ◌+ℤ◌, ◌≤ℤ◌, ◌<
 use Rattle.std.specs.Option.{option_copied}
 use Rattle.std.specs.List.{list_any, sum_by, All, AllByRecursion, slice_get}
 use Rattle.std.specs.List.Sorted.{IsPermutation, IsSortedBy, IsStrictlySortedBy}
-use Rattle.std.specs.BTreeSet.{BTreeSet, contains, UpdatesBy}
 use Rattle.std.specs.BTreeMap.{is_at}
 use Rattle.std.specs.Cmp.{IsEquivalence}
 use Rattle.std.specs.Ordering.{nat_cmp, int_cmp, int_eq, is_lt}
@@ -12,7 +11,7 @@ use Rattle.std.specs.declared.cmp.Ordering.TheVariants.{Less}
 use Rattle.std.proofs.lemmas.Int.{ints}
 use Rattle.std.proofs.lemmas.List.{map-append}
 use Rattle.std.proofs.lemmas.List.Sums.{sum_by-cons}
-use Rattle.std.proofs.lemmas.List.Elements.{All-tail}
+use Rattle.std.proofs.lemmas.List.Elements.{All-nil, All-cons, All-head, All-tail, All-weaker}
 use Rattle.std.proofs.lemmas.List.Sorted.{sum_by-IsPermutation, IsPermutation-map, All-permutation}
 use Rattle.std.specs.declared.cmp.Ordering.{Ordering}
 use Rattle.element_core.specs.Numbering.{Numbering, IsNumbering}
@@ -20,7 +19,7 @@ use Rattle.number_line.specs.Ranges.{lies_in, xor}
 use Rattle.range_map.specs.declared.sweep.bounds.Bound.{Bound}
 use Rattle.range_map.specs.Range.{in_numbers}
 use Rattle.range_map.specs.Sweep.{DoNotFallFrom}
-use Rattle.range_map.specs.Bounds.{lies_at_from, lies_at, places_from, places_at, bound_in_numbers, bounds_in_numbers, is_passed, crossed, AreBounds, AreBoundsPushed, has_place, AscendFrom, Active, AreActive, NonePassed}
+use Rattle.range_map.specs.Bounds.{lies_at_from, lies_at, places_from, places_at, bound_in_numbers, bounds_in_numbers, is_passed, crossed, AreBounds, AreBoundsPushed, has_place, AscendFrom, Active, AreActive, AllBehind}
 
 pub xor_false : (b : Bool) → xor b false ≡ b
 xor_false true = refl
@@ -289,12 +288,35 @@ module _ {T : Type 0} (numbers : Numbering T) where
       nothing true = refl
       nothing false = refl
 
--- where no bound is left up to the later of two numbers, the same ranges hold both
-pub held_alike : (greatest : ℤ) (ranges : List (ℤ × ℤ)) (x y : ℤ) (active : Active) → x ≤ℤ y → y ≤ℤ greatest → NonePassed active.rest y
+-- where all bounds that are left lie behind the later of two numbers, the same ranges hold both
+none_passed : (bounds : List (ℤ × ℕ)) (n x : ℤ) (place : ℕ) → AllBehind n bounds → x ≤ℤ n → crossed bounds place x ≡ false
+none_passed [] n x place h low = refl
+none_passed (bound ∷ rest) n x place h low =
+    let first = All-head (λ (b : ℤ × ℕ). n <ℤ b.0) bound rest h in
+    let later : int_le bound.0 x ≡ false = grind (arith, ints) in
+    rw (later, none_passed rest n x place (All-tail (λ (b : ℤ × ℕ). n <ℤ b.0) bound rest h) low) (nothing (bound.1 == place))
+  where
+    nothing : (b : Bool) → xor (b && false) false ≡ false
+    nothing true = refl
+    nothing false = refl
+
+pub held_alike : (greatest : ℤ) (ranges : List (ℤ × ℤ)) (x y : ℤ) (active : Active) → x ≤ℤ y → y ≤ℤ greatest → AllBehind y active.rest
     → AreActive greatest ranges x active → (place : ℕ) → lies_at ranges place y ≡ lies_at ranges place x
-held_alike greatest ranges x y active low high none are place =
-    sym (rw (none place y (omega (arith, ints))) at (are place y low high))
-    ∙ (rw (none place x low) at (are place x (omega (arith, ints)) (omega (arith, ints))))
+held_alike greatest ranges x y active low high behind are place =
+    sym (rw (none_passed active.rest y y place behind (omega (arith, ints)), xor_false (has_place active.places place)) at (are place y low high))
+    ∙ (rw (none_passed active.rest y x place behind low, xor_false (has_place active.places place)) at (are place x (omega (arith, ints)) (omega (arith, ints))))
+
+-- bounds that don't fall from m on lie all behind what is below m
+pub all_behind : {T : Type 0} (numbers : Numbering T) (n m : ℤ) (list : List (Bound T)) → DoNotFallFrom numbers m (map (λ bound. bound.at) list) → n <ℤ m
+    → AllBehind n (bounds_in_numbers numbers list)
+all_behind numbers n m [] d h = All-nil (λ (b : ℤ × ℕ). n <ℤ b.0)
+all_behind numbers n m (bound ∷ rest) d h =
+    All-cons (λ (b : ℤ × ℕ). n <ℤ b.0) (bound_in_numbers numbers bound) (bounds_in_numbers numbers rest) (omega (arith, ints, d.1))
+    (all_behind numbers n (numbers.number bound.at) rest d.3 (omega (arith, ints, d.1)))
+
+-- and so do those behind m that lie further on
+pub all_behind-lower : (n m : ℤ) (bounds : List (ℤ × ℕ)) → n ≤ℤ m → AllBehind m bounds → AllBehind n bounds
+all_behind-lower n m bounds h behind = All-weaker (λ (b : ℤ × ℕ). m <ℤ b.0) (λ b. n <ℤ b.0) (λ b lt. omega (arith, ints)) bounds behind
 
 -- ---- what depends alone on which ranges hold a number
 

@@ -1,6 +1,6 @@
 -- Several ranges, known by their places from 0 on: where each begins and ends, and which of them hold a number.
 use Rattle.std.specs.Prelude.{◌<◌, ◌≤◌, ◌≡◌, ℕ, suc, ◌==◌, ℤ, ◌≤ℤ◌, ◌<ℤ◌, Bool, false, ◌&&◌, int_le, if◌then◌else◌, List, [], ◌∷◌, map}
-use Rattle.std.specs.List.{list_any}
+use Rattle.std.specs.List.{All, list_any}
 use Rattle.element_core.specs.Numbering.{Numbering}
 use Rattle.number_line.specs.Ranges.{lies_in, xor}
 use Rattle.range_map.specs.declared.sweep.bounds.Bound.{Bound}
@@ -98,13 +98,13 @@ abbrev pub ArePlacesAt : ℤ → ℤ → Active → List ℕ → Type 0
 ArePlacesAt greatest x before places = (ranges : List (ℤ × ℤ)) → AreActive greatest ranges x before → places ≡ places_at ranges x
 
 -- the first of the bounds, if any, lies behind n
-abbrev pub FirstIsBehind : {T : Type 0} → Numbering T → ℤ → List (Bound T) → Type 0
-FirstIsBehind numbers n [] = Unit {0}
-FirstIsBehind numbers n (bound ∷ rest) = n <ℤ numbers.number bound.at
+abbrev pub FirstIsBehind : ℤ → List (ℤ × ℕ) → Type 0
+FirstIsBehind n [] = Unit {0}
+FirstIsBehind n (bound ∷ rest) = n <ℤ bound.0
 
--- no bound lies at n or below
-abbrev pub NonePassed : List (ℤ × ℕ) → ℤ → Type 0
-NonePassed bounds n = (place : ℕ) (x : ℤ) → x ≤ℤ n → crossed bounds place x ≡ false
+-- all bounds lie behind n
+abbrev pub AllBehind : ℤ → List (ℤ × ℕ) → Type 0
+AllBehind n bounds = All (λ bound. n <ℤ bound.0) bounds
 
 -- from x to `end` the same ranges hold each number, where the places were active at x
 abbrev pub HeldAlikeTo : ℤ → ℤ → ℤ → Active → Type 0

@@ -1,15 +1,12 @@
 //! Which of several ranges hold a number, as a list, as the number ascends.
-ghost use Rattle.std.specs.Prelude.{◌≡◌, ℕ, ◌+◌, ◌==◌, ℤ, ◌≤ℤ◌, List, map, IfOk, OnOk, OnErr};
+ghost use Rattle.std.specs.Prelude.{◌≡◌, ℕ, ◌+◌, ◌==◌, ℤ, ◌≤ℤ◌, List, IfOk, OnOk, OnErr};
 ghost use Rattle.std.specs.List.Sorted.{IsSorted};
 ghost use Rattle.std.specs.Ordering.{nat_cmp};
 ghost use Rattle.number_line.specs.Ranges.{xor};
 ghost use Rattle.range_map.specs.Bounds.{has_place, is_odd, AscendFrom, AscendBelow};
 ghost use Rattle.range_map.specs.Bounds.{IsToggled, StaysActive, ArePlacesAt, HeldAlikeTo};
-ghost use Rattle.range_map.specs.Bounds.{bounds_in_numbers, FirstIsBehind, NonePassed};
-ghost use Rattle.range_map.specs.Sweep.{DoNotFallFrom};
 
-use crate::sweep::bounds::Bound;
-use crate::sweep::value_before;
+use crate::sweep::bounds::{Bound, end_before};
 use element_core::{Element, NoMemory, is_below};
 use std::alloc::Global;
 use std::marker::Model;
@@ -72,23 +69,6 @@ fn odd_ones(mut odd: Vec<usize>, sorted: &[usize]) -> Result<Vec<usize>, NoMemor
         toggle(&mut odd, *place)?;
     }
     Ok(odd)
-}
-
-// Returns the last value before all of the bounds, of which the first lies behind `x`.
-fn end_before<T: Element>(x: T, bounds: &[Bound<T>]) -> T
-    requires in_order { DoNotFallFrom T.numbers T.numbers.least
-        (map (λ bound. bound.at) bounds.now) }
-    requires behind { FirstIsBehind T.numbers (T.numbers.number x) bounds.now }
-    ensures order { T.numbers.number x ≤ℤ T.numbers.number result }
-    ensures high { T.numbers.number result ≤ℤ T.numbers.greatest }
-    ensures none_passed { NonePassed (bounds_in_numbers T.numbers bounds.now)
-        (T.numbers.number result) }
-{
-    x.in_type();
-    match bounds.split_first() {
-        None => T::max_value(),
-        Some((bound, _)) => value_before(x, bound.at),
-    }
 }
 
 impl<'a, T: Element> ActivePlaces<'a, T> {

@@ -6,9 +6,11 @@ ghost use Rattle.range_map.specs.Valued.{pairs_in_numbers};
 ghost use Rattle.range_map.specs.Sweep.{DoNotFallFrom};
 ghost use Rattle.range_map.specs.Bounds.{ranges_of, bounds_in_numbers, AreBounds};
 ghost use Rattle.range_map.specs.Bounds.{AreBoundsPushed, StartsActive};
+ghost use Rattle.range_map.specs.Bounds.{FirstIsBehind, AllBehind};
 
 use crate::range::Range;
 use crate::sweep::active_places::ActivePlaces;
+use crate::sweep::value_before;
 use element_core::{Element, NoMemory, compare};
 use std::alloc::Global;
 use std::marker::Model;
@@ -64,6 +66,24 @@ fn push_bounds<T: Element>(
             bounds.push(Bound { at, place })?;
             Ok(())
         }
+    }
+}
+
+// Returns the last value before all of the bounds, of which the first lies behind `x`.
+pub(crate) fn end_before<T: Element>(x: T, bounds: &[Bound<T>]) -> T
+    requires in_order { DoNotFallFrom T.numbers T.numbers.least
+        (map (λ bound. bound.at) bounds.now) }
+    requires behind { FirstIsBehind (T.numbers.number x)
+        (bounds_in_numbers T.numbers bounds.now) }
+    ensures order { T.numbers.number x ≤ℤ T.numbers.number result }
+    ensures high { T.numbers.number result ≤ℤ T.numbers.greatest }
+    ensures behind { AllBehind (T.numbers.number result)
+        (bounds_in_numbers T.numbers bounds.now) }
+{
+    x.in_type();
+    match bounds.split_first() {
+        None => T::max_value(),
+        Some((bound, _)) => value_before(x, bound.at),
     }
 }
 

@@ -4,7 +4,7 @@ use Rattle.std.proofs.lemmas.Int.{ints}
 use Rattle.std.proofs.lemmas.List.{nil_from_length}
 use Rattle.range_map.specs.Sweep.{DoNotFallFrom}
 use Rattle.range_map.specs.Bounds.{AreActive, bounds_in_numbers, bound_in_numbers, crossed}
-use Rattle.range_map.proofs.BoundLemmas.{active_places, held_alike, do_not_fall-lower, crossed_before}
+use Rattle.range_map.proofs.BoundLemmas.{active_places, held_alike, all_behind-lower, do_not_fall-lower, crossed_before}
 use Rattle.range_map.proofs.OddLemmas.{told_start, told_step, told_end}
 use Rattle.range_map.proofs.sweep.active_places.ActivePlaces.enter.Goals as goal
 use Rattle.range_map.proofs.sweep.active_places.ActivePlaces.enter.Goals.{in-Some+then-is_below, in_default}
@@ -69,6 +69,6 @@ returns-clause-stays g c =
     let high = end.high in
     (end.order, λ ranges active y low up place. held_alike numbers.greatest ranges (numbers.number c.args.x) y
     (record { places = c.in_ok-odd.odd.items; rest = bounds_in_numbers numbers c.loop-bound.rest.now }) low (omega (arith, ints))
-    (λ place x h. end.none_passed place x (omega (arith, ints)))
+    (all_behind-lower y _ _ up end.behind)
     (λ place x low high. told_end numbers.greatest ranges (numbers.number c.args.x) _ _ _ _ c.in_ok-sort.ensures.permutation
     (rw c.as_slice-2.ensures.value at c.in_ok-odd.ensures.odd) (c.loop-bound.invariant.told ranges active) place x low high) place)
