@@ -4,7 +4,6 @@ use Rattle.std.specs.Prelude.{◌==◌, ℤ, pos, ◌+ℤ◌, ◌≤ℤ◌, ◌<
 use Rattle.std.specs.Option.{option_copied}
 use Rattle.std.specs.List.{list_any, sum_by, All, AllByRecursion, slice_get}
 use Rattle.std.specs.List.Sorted.{IsPermutation, IsSortedBy, IsStrictlySortedBy}
-use Rattle.std.specs.BTreeSet.{BTreeSet, contains, UpdatesBy}
 use Rattle.std.specs.BTreeMap.{is_at}
 use Rattle.std.specs.Cmp.{IsEquivalence}
 use Rattle.std.specs.Ordering.{nat_cmp, int_cmp, int_eq, is_lt}
@@ -12,74 +11,24 @@ use Rattle.std.specs.declared.cmp.Ordering.TheVariants.{Less}
 use Rattle.std.proofs.lemmas.Int.{ints}
 use Rattle.std.proofs.lemmas.List.{map-append}
 use Rattle.std.proofs.lemmas.List.Sums.{sum_by-cons}
-use Rattle.std.proofs.lemmas.List.Elements.{All-tail}
+use Rattle.std.proofs.lemmas.List.Elements.{All-nil, All-cons, All-head, All-tail, All-weaker}
 use Rattle.std.proofs.lemmas.List.Sorted.{sum_by-IsPermutation, IsPermutation-map, All-permutation}
 use Rattle.std.specs.declared.cmp.Ordering.{Ordering}
 use Rattle.element_core.specs.Numbering.{Numbering, IsNumbering}
 use Rattle.number_line.specs.Ranges.{lies_in, xor}
 use Rattle.range_map.specs.declared.sweep.bounds.Bound.{Bound}
 use Rattle.range_map.specs.Range.{in_numbers}
-use Rattle.range_map.specs.Sweep.{DoNotFallFrom, is_cut, ChangesAtCuts}
-use Rattle.range_map.specs.Bounds.{lies_at_from, lies_at, places_from, places_at, bound_in_numbers, bounds_in_numbers, is_passed, crossed, AreBounds, AreBoundsPushed, has_place, AscendFrom, AreActive}
+use Rattle.range_map.specs.Sweep.{DoNotFallFrom}
+use Rattle.range_map.specs.Bounds.{lies_at_from, lies_at, places_from, places_at, bound_in_numbers, bounds_in_numbers, is_passed, crossed, AreBounds, AreBoundsPushed, has_place, AscendFrom, Active, AreActive, AllBehind}
 
 pub xor_false : (b : Bool) → xor b false ≡ b
 xor_false true = refl
 xor_false false = refl
 
--- ---- the set of places
-
-is_at_is : (q k : ℕ) → is_at (nat_cmp q) k ≡ (k == q)
-is_at_is q k = grind arith
-
-has_place_is : (keys : List ℕ) (place : ℕ) → list_any (is_at (nat_cmp place)) keys ≡ has_place keys place
-has_place_is [] place = refl
-has_place_is (k ∷ keys) place = rw (is_at_is place k, has_place_is keys place)
-
-turned : (place other : ℕ) → (other == place) ≡ (place == other)
-turned place other = grind arith
-
 pub same_place : (place other : ℕ) → (place == other) ≡ true → place ≡ other
 same_place place other h = grind arith
 
-module _ (old new : BTreeSet ℕ) (place : ℕ) (was now : Bool) (opposite : now ≡ not was) (there : contains nat_cmp old place ≡ was)
-    (updates : UpdatesBy nat_cmp (nat_cmp place) old new now) where
-  -- a place that is put in where it wasn't, or taken out where it was
-  changed_over : (other : ℕ) → has_place new.keys other ≡ xor (place == other) (has_place old.keys other)
-  changed_over other = sym (has_place_is new.keys other) ∙ (updates.0 other ∙ seen)
-    where
-      by_case : (e : Bool) → (place == other) ≡ e → cond e now (has_place old.keys other) ≡ xor e (has_place old.keys other)
-      by_case true h =
-          let one : place ≡ other = same_place place other h in
-          let has : has_place old.keys other ≡ was = ap (has_place old.keys) (sym one) ∙ (sym (has_place_is old.keys place) ∙ there) in
-          opposite ∙ ap not (sym has)
-      by_case false h = refl
-
-      seen : cond (is_at (nat_cmp place) other) now (contains nat_cmp old other) ≡ xor (place == other) (has_place old.keys other)
-      seen = rw (is_at_is place other, turned place other, has_place_is old.keys other) (by_case (place == other) refl)
-
-pub crossed_out : (old new : BTreeSet ℕ) (place : ℕ) → contains nat_cmp old place ≡ true → UpdatesBy nat_cmp (nat_cmp place) old new false
-    → (other : ℕ) → has_place new.keys other ≡ xor (place == other) (has_place old.keys other)
-crossed_out old new place there updates = changed_over old new place true false refl there updates
-
-pub crossed_in : (old mid new : BTreeSet ℕ) (place : ℕ) → contains nat_cmp old place ≡ false → mid.keys ≡ old.keys → UpdatesBy nat_cmp (nat_cmp place) mid new true
-    → (other : ℕ) → has_place new.keys other ≡ xor (place == other) (has_place old.keys other)
-crossed_in old mid new place absent same updates other =
-    changed_over mid new place false true refl (ap (list_any (is_at (nat_cmp place))) same ∙ absent) updates other
-    ∙ ap (λ keys. xor (place == other) (has_place keys other)) same
-
 -- ---- ascending places
-
-less_is_below : (a b : ℕ) → nat_cmp a b ≡ Less → suc a ≤ b
-less_is_below a b h = grind arith
-
-ascend_behind : (k : ℕ) (keys : List ℕ) → IsStrictlySortedBy nat_cmp (k ∷ keys) → AscendFrom (suc k) keys
-unfolding IsStrictlySortedBy
-ascend_behind k [] h = tt
-ascend_behind k (l ∷ keys) h = (less_is_below k l h.0.0, ascend_behind l keys h.1)
-
-pub ascend_from_sorted : (keys : List ℕ) → IsStrictlySortedBy nat_cmp keys → AscendFrom 0 keys
-ascend_from_sorted [] h = tt
-ascend_from_sorted (k ∷ keys) h = (omega arith, ascend_behind k keys h)
 
 pub absent_below : (n m : ℕ) (keys : List ℕ) → AscendFrom m keys → n < m → has_place keys n ≡ false
 absent_below n m [] a h = refl
@@ -339,13 +288,43 @@ module _ {T : Type 0} (numbers : Numbering T) where
       nothing true = refl
       nothing false = refl
 
+-- where all bounds that are left lie behind the later of two numbers, the same ranges hold both
+none_passed : (bounds : List (ℤ × ℕ)) (n x : ℤ) (place : ℕ) → AllBehind n bounds → x ≤ℤ n → crossed bounds place x ≡ false
+none_passed [] n x place h low = refl
+none_passed (bound ∷ rest) n x place h low =
+    let first = All-head (λ (b : ℤ × ℕ). n <ℤ b.0) bound rest h in
+    let later : int_le bound.0 x ≡ false = grind (arith, ints) in
+    rw (later, none_passed rest n x place (All-tail (λ (b : ℤ × ℕ). n <ℤ b.0) bound rest h) low) (nothing (bound.1 == place))
+  where
+    nothing : (b : Bool) → xor (b && false) false ≡ false
+    nothing true = refl
+    nothing false = refl
+
+pub held_alike : (greatest : ℤ) (ranges : List (ℤ × ℤ)) (x y : ℤ) (active : Active) → x ≤ℤ y → y ≤ℤ greatest → AllBehind y active.rest
+    → AreActive greatest ranges x active → (place : ℕ) → lies_at ranges place y ≡ lies_at ranges place x
+held_alike greatest ranges x y active low high behind are place =
+    sym (rw (none_passed active.rest y y place behind (omega (arith, ints)), xor_false (has_place active.places place)) at (are place y low high))
+    ∙ (rw (none_passed active.rest y x place behind low, xor_false (has_place active.places place)) at (are place x (omega (arith, ints)) (omega (arith, ints))))
+
+-- bounds that don't fall from m on lie all behind what is below m
+pub all_behind : {T : Type 0} (numbers : Numbering T) (n m : ℤ) (list : List (Bound T)) → DoNotFallFrom numbers m (map (λ bound. bound.at) list) → n <ℤ m
+    → AllBehind n (bounds_in_numbers numbers list)
+all_behind numbers n m [] d h = All-nil (λ (b : ℤ × ℕ). n <ℤ b.0)
+all_behind numbers n m (bound ∷ rest) d h =
+    All-cons (λ (b : ℤ × ℕ). n <ℤ b.0) (bound_in_numbers numbers bound) (bounds_in_numbers numbers rest) (omega (arith, ints, d.1))
+    (all_behind numbers n (numbers.number bound.at) rest d.3 (omega (arith, ints, d.1)))
+
+-- and so do those behind m that lie further on
+pub all_behind-lower : (n m : ℤ) (bounds : List (ℤ × ℕ)) → n ≤ℤ m → AllBehind m bounds → AllBehind n bounds
+all_behind-lower n m bounds h behind = All-weaker (λ (b : ℤ × ℕ). m <ℤ b.0) (λ b. n <ℤ b.0) (λ b lt. omega (arith, ints)) bounds behind
+
 -- ---- what depends alone on which ranges hold a number
 
 -- each of the ranges holds both numbers or neither
 abbrev pub HoldAlike : List (ℤ × ℤ) → ℤ → ℤ → Type 0
 HoldAlike ranges x y = AllByRecursion (λ r. lies_in r x ≡ lies_in r y) ranges
 
-hold_alike : (n : ℕ) (ranges : List (ℤ × ℤ)) (x y : ℤ) → ((place : ℕ) → lies_at_from n ranges place x ≡ lies_at_from n ranges place y) → HoldAlike ranges x y
+pub hold_alike : (n : ℕ) (ranges : List (ℤ × ℤ)) (x y : ℤ) → ((place : ℕ) → lies_at_from n ranges place x ≡ lies_at_from n ranges place y) → HoldAlike ranges x y
 hold_alike n [] x y h = tt
 hold_alike n (r ∷ rest) x y h =
     let itself : (n == n) ≡ true = grind arith in
@@ -357,52 +336,3 @@ hold_alike n (r ∷ rest) x y h =
         let one : n ≡ place = same_place n place e in
         rw (← one) (lies_at_earlier n (suc n) rest x (omega arith) ∙ sym (lies_at_earlier n (suc n) rest y (omega arith)))
     others place false e = rw e at (h place)
-
--- where no bound lies at the next number, the same bounds are passed there
-crossed_on : (bounds : List (ℤ × ℕ)) (x : ℤ) → is_cut (map (λ bound. bound.0) bounds) (x +ℤ pos 1) ≡ false → (place : ℕ) → crossed bounds place x ≡ crossed bounds place (x +ℤ pos 1)
-crossed_on [] x none place = refl
-crossed_on (bound ∷ rest) x none place =
-    let both = neither (int_eq bound.0 (x +ℤ pos 1)) (is_cut (map (λ b. b.0) rest) (x +ℤ pos 1)) none in
-    let passed : int_le bound.0 x ≡ int_le bound.0 (x +ℤ pos 1) = on bound.0 both.0 in
-    rw (passed, crossed_on rest x both.1 place)
-  where
-    neither : (a b : Bool) → (a || b) ≡ false → (a ≡ false) × (b ≡ false)
-    neither true b h = absurd (cc)
-    neither false b h = (refl, h)
-
-    on : (n : ℤ) → int_eq n (x +ℤ pos 1) ≡ false → int_le n x ≡ int_le n (x +ℤ pos 1)
-    on n h = grind (arith, ints)
-
--- a label that is given by which ranges hold a number changes at the bounds alone
-pub changes_at_bounds : {L : Type 0} (same : L → L → Bool) → IsEquivalence same → (label : ℤ → L) (lo greatest : ℤ) (ranges : List (ℤ × ℤ)) (bounds : List (ℤ × ℕ)) (cuts : List ℤ)
-    → AreBounds greatest ranges bounds → cuts ≡ map (λ bound. bound.0) bounds
-    → ((x y : ℤ) → HoldAlike ranges x y → label x ≡ label y)
-    → ChangesAtCuts same label lo greatest cuts
-changes_at_bounds same eq label lo greatest ranges bounds cuts are is by_ranges x low high none =
-    let unchanged = crossed_on bounds x (rw is at none) in
-    let alike : HoldAlike ranges x (x +ℤ pos 1) =
-    hold_alike 0 ranges x (x +ℤ pos 1) (λ place. sym (are place x (omega (arith, ints))) ∙ (unchanged place ∙ are place (x +ℤ pos 1) (omega (arith, ints)))) in
-    rw (by_ranges x (x +ℤ pos 1) alike) (eq.refl (label (x +ℤ pos 1)))
-
--- ---- cuts and the last place
-
--- the values of bounds, in numbers
-pub cuts_of_bounds : {T : Type 0} (numbers : Numbering T) (list : List (Bound T)) → map numbers.number (map (λ bound. bound.at) list) ≡ map (λ bound. bound.0) (bounds_in_numbers numbers list)
-cuts_of_bounds numbers [] = refl
-cuts_of_bounds numbers (bound ∷ rest) = ap (λ left. numbers.number bound.at ∷ left) (cuts_of_bounds numbers rest)
-
-splits_at_last : (places : List ℕ) (last : ℕ) → slice_get places (length places - 1) ≡ Some last → (front : List ℕ) × (places ≡ front ++ last ∷ [])
-splits_at_last [] last h = absurd (cc)
-splits_at_last (k ∷ []) last h =
-    let first : slice_get (k ∷ []) 0 ≡ Some last = h in
-    let one : k ≡ last = cc in
-    ([], ap (λ m. m ∷ []) one)
-splits_at_last (k ∷ l ∷ rest) last h =
-    let further : length (k ∷ l ∷ rest) - 1 ≡ suc (length (l ∷ rest) - 1) = omega arith in
-    let more = splits_at_last (l ∷ rest) last (rw further at h) in
-    (k ∷ more.0, ap (λ left. k ∷ left) more.1)
-
-pub copied_last : (places : List ℕ) (last : Option (Bor ℕ)) → IfSome last (λ place. slice_get places (length places - 1) ≡ Some place.now)
-    → IfSome (option_copied last) (λ place. (front : List ℕ) × (places ≡ front ++ place ∷ []))
-copied_last places None h = tt
-copied_last places (Some place) h = splits_at_last places place.now h

@@ -9,6 +9,7 @@ pub mod DividedLemmas
 pub mod GrowthLemmas
 pub mod SweepLemmas
 pub mod BoundLemmas
+pub mod BegunLemmas
 pub mod OddLemmas
 pub mod ElementLemmas
 pub mod ChangeLemmas

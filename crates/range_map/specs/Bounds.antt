@@ -1,6 +1,6 @@
 -- Several ranges, known by their places from 0 on: where each begins and ends, and which of them hold a number.
-use Rattle.std.specs.Prelude.{◌<◌, ◌≤◌, ◌≡◌, ℕ, suc, ◌==◌, ℤ, ◌≤ℤ◌, Bool, false, ◌&&◌, int_le, if◌then◌else◌, List, [], ◌∷◌, map}
-use Rattle.std.specs.List.{list_any}
+use Rattle.std.specs.Prelude.{◌<◌, ◌≤◌, ◌≡◌, ℕ, suc, ◌==◌, ℤ, ◌≤ℤ◌, ◌<ℤ◌, Bool, false, ◌&&◌, int_le, if◌then◌else◌, List, [], ◌∷◌, map}
+use Rattle.std.specs.List.{All, list_any}
 use Rattle.element_core.specs.Numbering.{Numbering}
 use Rattle.number_line.specs.Ranges.{lies_in, xor}
 use Rattle.range_map.specs.declared.sweep.bounds.Bound.{Bound}
@@ -96,3 +96,17 @@ StaysActive greatest x before after =
 -- the places are those of the ranges that hold x, where these were active at x
 abbrev pub ArePlacesAt : ℤ → ℤ → Active → List ℕ → Type 0
 ArePlacesAt greatest x before places = (ranges : List (ℤ × ℤ)) → AreActive greatest ranges x before → places ≡ places_at ranges x
+
+-- the first of the bounds, if any, lies behind n
+abbrev pub FirstIsBehind : ℤ → List (ℤ × ℕ) → Type 0
+FirstIsBehind n [] = Unit {0}
+FirstIsBehind n (bound ∷ rest) = n <ℤ bound.0
+
+-- all bounds lie behind n
+abbrev pub AllBehind : ℤ → List (ℤ × ℕ) → Type 0
+AllBehind n bounds = All (λ bound. n <ℤ bound.0) bounds
+
+-- from x to `end` the same ranges hold each number, where the places were active at x
+abbrev pub HeldAlikeTo : ℤ → ℤ → ℤ → Active → Type 0
+HeldAlikeTo greatest x end before = (x ≤ℤ end) × ((ranges : List (ℤ × ℤ)) → AreActive greatest ranges x before
+    → (y : ℤ) → x ≤ℤ y → y ≤ℤ end → (place : ℕ) → lies_at ranges place y ≡ lies_at ranges place x)

@@ -7,6 +7,7 @@ pub mod MapLaws
 pub mod MapError
 pub mod Sweep
 pub mod Bounds
+pub mod Begun
 pub mod Making
 pub mod Elements
 pub mod ErrorText

@@ -4,9 +4,9 @@ ghost use Rattle.std.specs.List.Sorted.{IsSorted};
 ghost use Rattle.std.specs.Ordering.{nat_cmp};
 ghost use Rattle.number_line.specs.Ranges.{xor};
 ghost use Rattle.range_map.specs.Bounds.{has_place, is_odd, AscendFrom, AscendBelow};
-ghost use Rattle.range_map.specs.Bounds.{IsToggled, StaysActive, ArePlacesAt};
+ghost use Rattle.range_map.specs.Bounds.{IsToggled, StaysActive, ArePlacesAt, HeldAlikeTo};
 
-use crate::sweep::bounds::Bound;
+use crate::sweep::bounds::{Bound, end_before};
 use element_core::{Element, NoMemory, is_below};
 use std::alloc::Global;
 use std::marker::Model;
@@ -72,14 +72,16 @@ fn odd_ones(mut odd: Vec<usize>, sorted: &[usize]) -> Result<Vec<usize>, NoMemor
 }
 
 impl<'a, T: Element> ActivePlaces<'a, T> {
-    /// Goes on to `x`, which must not be below what was entered before. O(n + m log m) time and O(n
-    /// + m) memory for n places and m bounds that are passed. After `NoMemory` everything is as
-    /// before.
-    pub fn enter(&mut self, alloc: Global, x: T) -> Result<(), NoMemory>
+    /// Goes on to `x`, which must not be below what was entered before, and returns the last value
+    /// up to which the same ranges hold each. O(n + m log m) time and O(n + m) memory for n places
+    /// and m bounds that are passed. After `NoMemory` everything is as before.
+    pub fn enter(&mut self, alloc: Global, x: T) -> Result<T, NoMemory>
         ensures goes_on { OnOk result (StaysActive T.numbers.greatest (T.numbers.number x)
             self.old self.new) }
         ensures entered { OnOk result (ArePlacesAt T.numbers.greatest (T.numbers.number x)
             self.old self.new.places) }
+        ensures stays { IfOk result (λ end. HeldAlikeTo T.numbers.greatest (T.numbers.number x)
+            (T.numbers.number end) self.old) }
         ensures unchanged { OnErr result (self.new ≡ self.old) }
     {
         x.in_type();
@@ -102,7 +104,7 @@ impl<'a, T: Element> ActivePlaces<'a, T> {
         self.left = mem::replace(&mut self.places, odd);
         self.passed = all;
         self.rest = rest;
-        Ok(())
+        Ok(end_before(x, rest))
     }
 
     /// Returns the places, ascending. O(1) time, no memory.

@@ -3,16 +3,16 @@ ghost use Rattle.std.specs.Prelude.{◌≡◌, ℕ, ℤ, ◌≤ℤ◌, map, IfOk
 ghost use Rattle.std.specs.List.{All};
 ghost use Rattle.range_map.specs.Range.{in_numbers};
 ghost use Rattle.range_map.specs.Valued.{pairs_in_numbers};
-ghost use Rattle.range_map.specs.Sweep.{DoNotFallFrom, numbers_of};
+ghost use Rattle.range_map.specs.Sweep.{DoNotFallFrom};
 ghost use Rattle.range_map.specs.Bounds.{ranges_of, bounds_in_numbers, AreBounds};
 ghost use Rattle.range_map.specs.Bounds.{AreBoundsPushed, StartsActive};
+ghost use Rattle.range_map.specs.Bounds.{FirstIsBehind, AllBehind};
 
 use crate::range::Range;
 use crate::sweep::active_places::ActivePlaces;
-use crate::sweep::last_place::LastPlace;
+use crate::sweep::value_before;
 use element_core::{Element, NoMemory, compare};
 use std::alloc::Global;
-use std::collections::BTreeSet;
 use std::marker::Model;
 
 /// The value at which the range at `place` begins, or the value behind its end.
@@ -69,6 +69,24 @@ fn push_bounds<T: Element>(
     }
 }
 
+// Returns the last value before all of the bounds, of which the first lies behind `x`.
+pub(crate) fn end_before<T: Element>(x: T, bounds: &[Bound<T>]) -> T
+    requires in_order { DoNotFallFrom T.numbers T.numbers.least
+        (map (λ bound. bound.at) bounds.now) }
+    requires behind { FirstIsBehind (T.numbers.number x)
+        (bounds_in_numbers T.numbers bounds.now) }
+    ensures order { T.numbers.number x ≤ℤ T.numbers.number result }
+    ensures high { T.numbers.number result ≤ℤ T.numbers.greatest }
+    ensures behind { AllBehind (T.numbers.number result)
+        (bounds_in_numbers T.numbers bounds.now) }
+{
+    x.in_type();
+    match bounds.split_first() {
+        None => T::max_value(),
+        Some((bound, _)) => value_before(x, bound.at),
+    }
+}
+
 impl<T: Element> Bounds<T> {
     /// Returns the bounds of the ranges of `pairs`. O(n log n) time for n pairs.
     pub fn new<V>(alloc: Global, pairs: &[(Range<T>, V)]) -> Result<Self, NoMemory>
@@ -83,21 +101,6 @@ impl<T: Element> Bounds<T> {
         Ok(Bounds { bounds })
     }
 
-    /// Returns the values at which ranges begin or have just ended, ascending, each as often as it
-    /// does. O(n) time for n bounds.
-    pub fn cuts(&self, alloc: Global) -> Result<Vec<T>, NoMemory>
-        ensures cuts { IfOk result
-            (λ cuts. numbers_of T.numbers cuts.items ≡ map (λ bound. bound.0) self.now) }
-        ensures in_order { IfOk result
-            (λ cuts. DoNotFallFrom T.numbers T.numbers.least cuts.items) }
-    {
-        let mut cuts = Vec::with_capacity(alloc, self.bounds.len())?;
-        for bound in &self.bounds {
-            cuts.push(bound.at)?;
-        }
-        Ok(cuts)
-    }
-
     /// Returns the places of the ranges that hold a number, before the least one. O(1) time, no
     /// memory.
     pub fn active(&self, alloc: Global) -> ActivePlaces<'_, T>
@@ -108,17 +111,6 @@ impl<T: Element> Bounds<T> {
             rest: self.bounds.as_slice(),
             passed: Vec::new(alloc),
             left: Vec::new(alloc),
-        }
-    }
-
-    /// Returns the greatest place of the ranges that hold a number, before the least one. O(1)
-    /// time, no memory.
-    pub fn last_place(&self, alloc: Global) -> LastPlace<'_, T>
-        ensures { StartsActive T.numbers.greatest self.now result }
-    {
-        LastPlace {
-            places: BTreeSet::new(alloc),
-            rest: self.bounds.as_slice(),
         }
     }
 }

@@ -4,7 +4,7 @@ use Rattle.std.proofs.lemmas.Int.{ints}
 use Rattle.std.proofs.lemmas.List.{nil_from_length}
 use Rattle.range_map.specs.Sweep.{DoNotFallFrom}
 use Rattle.range_map.specs.Bounds.{AreActive, bounds_in_numbers, bound_in_numbers, crossed}
-use Rattle.range_map.proofs.BoundLemmas.{active_places, do_not_fall-lower, crossed_before}
+use Rattle.range_map.proofs.BoundLemmas.{active_places, held_alike, all_behind-lower, do_not_fall-lower, crossed_before}
 use Rattle.range_map.proofs.OddLemmas.{told_start, told_step, told_end}
 use Rattle.range_map.proofs.sweep.active_places.ActivePlaces.enter.Goals as goal
 use Rattle.range_map.proofs.sweep.active_places.ActivePlaces.enter.Goals.{in-Some+then-is_below, in_default}
@@ -54,3 +54,21 @@ returns-clause-entered g c =
     rw c.replace.ensures.after (active_places numbers.greatest ranges (numbers.number c.args.x) _ _ c.in_ok-odd.ensures.ascending c.in_type.ensures.high none
     (told_end numbers.greatest ranges (numbers.number c.args.x) _ _ _ _ c.in_ok-sort.ensures.permutation
     (rw c.as_slice-2.ensures.value at c.in_ok-odd.ensures.odd) (c.loop-bound.invariant.told ranges active)))
+
+pub end_before-requires-clause-behind : goal.end_before-requires-clause-behind
+end_before-requires-clause-behind g c =
+    elim c.match-split_first.branch [
+      | in-Some+then-is_below w ↦ rw w.in-Some.ensures.cases.0 w.if-is_below.ensures
+      | in_default w ↦ rw (nil_from_length _ w.in_default.ensures.cases) tt
+    ]
+
+pub returns-clause-stays : goal.returns-clause-stays
+returns-clause-stays g c =
+    let numbers = g.T.Element.numbers in
+    let end = c.end_before.ensures in
+    let high = end.high in
+    (end.order, λ ranges active y low up place. held_alike numbers.greatest ranges (numbers.number c.args.x) y
+    (record { places = c.in_ok-odd.odd.items; rest = bounds_in_numbers numbers c.loop-bound.rest.now }) low (omega (arith, ints))
+    (all_behind-lower y _ _ up end.behind)
+    (λ place x low high. told_end numbers.greatest ranges (numbers.number c.args.x) _ _ _ _ c.in_ok-sort.ensures.permutation
+    (rw c.as_slice-2.ensures.value at c.in_ok-odd.ensures.odd) (c.loop-bound.invariant.told ranges active) place x low high) place)
