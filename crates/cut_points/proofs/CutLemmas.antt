@@ -65,10 +65,6 @@ pub nothing_left : (lo hi : ℤ) (rs : List (ℤ × ℤ)) → hi <ℤ lo → IsC
 nothing_left lo hi [] h c = refl
 nothing_left lo hi (r ∷ rest) h c = absurd (omega (arith, ints))
 
-pub no_cut_left : (lo hi : ℤ) (cs : List ℤ) → hi <ℤ lo → IsAscending lo hi cs → cs ≡ []
-no_cut_left lo hi [] h a = refl
-no_cut_left lo hi (c ∷ cs) h a = absurd (omega (arith, ints))
-
 pub cuts_ascend : (lo hi : ℤ) (rs : List (ℤ × ℤ)) → IsCanonical lo hi rs → IsAscending lo hi (cuts hi rs)
 cuts_ascend lo hi [] c = tt
 cuts_ascend lo hi (r ∷ rest) c = by_lt_z r.1 hi (below (cuts_ascend (r.1 +ℤ pos 2) hi rest c.3)) last

@@ -3,6 +3,7 @@ pub mod RunLemmas
 pub mod SymmetricLemmas
 pub mod ValueLemmas
 pub mod PlaceLemmas
+pub mod LeftLemmas
 pub mod EitherLemmas
 pub mod ManyLemmas
 pub mod BoundLemmas

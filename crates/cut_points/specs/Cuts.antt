@@ -1,5 +1,5 @@
 -- The cuts of a list of ranges: the numbers at which membership changes.
-use Rattle.std.specs.Prelude.{◌%◌, ◌==◌, ℤ, pos, ◌+ℤ◌, ◌-ℤ◌, ◌≤ℤ◌, Bool, int_le, int_lt, if◌then◌else◌, List, [], ◌∷◌, flat_map, Option, Some, None}
+use Rattle.std.specs.Prelude.{◌%◌, ◌==◌, ℤ, pos, ◌+ℤ◌, ◌-ℤ◌, ◌≤ℤ◌, Bool, int_le, int_lt, if◌then◌else◌, List, [], ◌∷◌, drop, flat_map, Option, Some, None}
 use Rattle.std.specs.List.{count_by}
 
 -- the numbers lie from lo to hi, and each is less than the next
@@ -12,6 +12,10 @@ abbrev pub cuts : ℤ → List (ℤ × ℤ) → List ℤ
 cuts greatest [] = []
 cuts greatest (r ∷ rest) =
     if int_lt r.1 greatest then r.0 ∷ (r.1 +ℤ pos 1) ∷ cuts greatest rest else r.0 ∷ cuts greatest rest
+
+-- the cuts still to come, where the start of the first range was passed or wasn't
+abbrev pub cuts_left : ℤ → Bool → List (ℤ × ℤ) → List ℤ
+cuts_left greatest begun ranges = if begun then drop 1 (cuts greatest ranges) else cuts greatest ranges
 
 -- the cuts of each range taken alone, range by range
 abbrev pub cuts_alone : ℤ → List (ℤ × ℤ) → List ℤ

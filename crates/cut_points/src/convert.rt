@@ -1,7 +1,6 @@
 //! From a set to its cuts and back, and membership by cuts.
 ghost use Rattle.std.specs.Prelude.{◌≡◌, ℤ, ◌<ℤ◌, int_le, IfOk, OnOk, IfSome, List, [], ◌∷◌, ◌++◌, option_map, is_none, cond, Some, None};
 ghost use Rattle.std.specs.List.{AllByRecursion};
-ghost use Rattle.std.specs.List.Sorted.{IsStrictlySortedBy};
 ghost use Rattle.number_line.specs.Ranges.{IsCanonical};
 ghost use Rattle.range_map.specs.Range.{in_numbers};
 ghost use Rattle.range_map.specs.Set.{all_in_numbers};
@@ -70,34 +69,6 @@ pub(crate) fn are_values<T: Element>(list: &[T])
     for value in list {
         value.in_type();
     }
-}
-
-// Returns the cuts of `set`, in a vector.
-fn listed_cuts<T: Element>(alloc: Global, set: &RangeSet<T>) -> Result<Vec<T>, NoMemory>
-    ensures { IfOk result (λ list. numbers_of T.numbers list.items
-        ≡ list_cuts T.numbers.greatest set.now) }
-{
-    let mut list = Vec::with_capacity(alloc, set.num_ranges().saturating_mul(2))?;
-    for range in set.ranges() {
-        list.push(range.start())?;
-        if let Some(after) = range.end().successor() {
-            list.push(after)?;
-        }
-    }
-    Ok(list)
-}
-
-// Returns the cuts of `set`, ascending, each a value of its type.
-pub(crate) fn cut_list<T: Element>(alloc: Global, set: &RangeSet<T>) -> Result<Vec<T>, NoMemory>
-    ensures numbers { IfOk result (λ list. numbers_of T.numbers list.items
-        ≡ list_cuts T.numbers.greatest set.now) }
-    ensures values { IfOk result (λ list. AllByRecursion T.numbers.IsValue list.items) }
-    ensures ascending { IfOk result (λ list. IsStrictlySortedBy T.cmp list.items) }
-{
-    set.ranges();
-    let list = listed_cuts(alloc, set)?;
-    are_values(&list);
-    Ok(list)
 }
 
 // Takes the next cut, which begins a range or ends the one that is begun. Answers the start of a

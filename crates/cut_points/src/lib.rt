@@ -7,6 +7,7 @@
 #![tactic(auto)]
 
 mod convert;
+mod cuts_left;
 pub mod laws;
 mod many;
 mod operations;

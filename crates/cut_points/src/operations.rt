@@ -1,35 +1,35 @@
 //! The members of just one of two sets, by cuts, and those of the left one alone.
-#![tactic(auto, using(sorted_iter::specs::Sources::sources))]
-
-ghost use Rattle.std.specs.Prelude.{◌≡◌, ◌&&◌, not, IfOk};
-ghost use Rattle.std.specs.List.Sorted.{IsStrictlySortedBy};
+ghost use Rattle.std.specs.Prelude.{◌≡◌, ◌<ℤ◌, ◌&&◌, not, [], ◌∷◌, option_map, IfOk, IfSome};
+ghost use Rattle.std.specs.Option.{option_to_list};
 ghost use Rattle.number_line.specs.Ranges.{holds, IsCanonical, xor};
-ghost use Rattle.ordered_lists.specs.Lists.{symmetric_difference};
-ghost use Rattle.range_map.specs.Range.{EachNumber};
+ghost use Rattle.range_map.specs.Range.{IsRange, in_numbers, EachNumber};
+ghost use Rattle.cut_points.specs.Cuts.{from_cuts};
 
-use crate::convert::{cut_list, from_cut_slice};
+use crate::cuts_left::{CutsLeft, take_lesser};
 use element_core::{Element, NoMemory};
-use range_map::RangeSet;
-use sorted_iter::{AssumeSortedByItemExt, SortedIterator};
+use range_map::{Range, RangeSet};
 use std::alloc::Global;
 
-// Returns the cuts that just one of the two lists has, ascending.
-fn in_just_one<T: Element>(alloc: Global, left: &[T], right: &[T]) -> Result<Vec<T>, NoMemory>
-    requires left { IsStrictlySortedBy T.cmp left.now }
-    requires right { IsStrictlySortedBy T.cmp right.now }
-    ensures { IfOk result (λ both. both.items ≡ symmetric_difference T.cmp left.now right.now) }
+// Returns the range from `start` to below `after`, or to the greatest value where there is none.
+fn range_before<T: Element>(start: T, after: Option<T>) -> Range<T>
+    requires { IfSome after (λ cut. T.numbers.number start <ℤ T.numbers.number cut) }
+    ensures ends { in_numbers T.numbers result ∷ [] ≡ from_cuts T.numbers.greatest
+        (T.numbers.number start ∷ option_to_list (option_map T.numbers.number after)) }
+    ensures range { IsRange T.numbers result }
 {
-    let mut both = Vec::with_capacity(alloc, left.len().saturating_add(right.len()))?;
-    let left = left.iter().copied().assume_sorted_by_item();
-    let right = right.iter().copied().assume_sorted_by_item();
-    for cut in left.symmetric_difference(right) {
-        both.push(cut)?;
+    start.in_type();
+    let Some(cut) = after else {
+        return Range::new(start, T::max_value());
+    };
+    match cut.predecessor() {
+        Some(end) => Range::new(start, end),
+        // A cut above `start` isn't the least value, so this arm is never run.
+        None => Range::single(start),
     }
-    Ok(both)
 }
 
 /// Returns the set of the values that are members of just one of the two sets. Its cuts are those
-/// that just one of them has. O(n + m) time for n and m ranges, and memory.
+/// that just one of them has. O(n + m) time for n and m ranges, and memory for the result alone.
 pub fn symmetric_difference<T: Element>(
     alloc: Global,
     left: &RangeSet<T>,
@@ -39,13 +39,16 @@ pub fn symmetric_difference<T: Element>(
     ensures members { IfOk result (λ set. EachNumber T.numbers
         (λ x. holds set x ≡ xor (holds left.now x) (holds right.now x))) }
 {
-    left.ranges();
-    right.ranges();
-    let left_cuts = cut_list(alloc, left)?;
-    let right_cuts = cut_list(alloc, right)?;
-    let both = in_just_one(alloc, &left_cuts, &right_cuts)?;
-    let set = from_cut_slice(alloc, &both)?;
-    Ok(set)
+    // Each range has two cuts at most, and each range of the result but the last takes two.
+    let most = left.num_ranges().saturating_add(right.num_ranges());
+    let mut ranges = Vec::with_capacity(alloc, most)?;
+    let mut left_cuts = CutsLeft::of(left);
+    let mut right_cuts = CutsLeft::of(right);
+    while let Some(start) = take_lesser(&mut left_cuts, &mut right_cuts) {
+        let after = take_lesser(&mut left_cuts, &mut right_cuts);
+        ranges.push(range_before(start, after))?;
+    }
+    Ok(RangeSet::from_canonical(ranges))
 }
 
 /// Returns the set of the members of `left` that aren't members of `right`. O(n + m) time for n and

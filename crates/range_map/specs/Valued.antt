@@ -1,5 +1,5 @@
 -- Lists of ranges of a numbered type that carry a value each.
-use Rattle.std.specs.Prelude.{◌≡◌, ℤ, Bool, true, List, [], ◌∷◌, map}
+use Rattle.std.specs.Prelude.{ℤ, Bool, List, [], ◌∷◌, map}
 use Rattle.element_core.specs.Numbering.{Numbering}
 use Rattle.number_line.specs.Valued.{IsCanonicalMap}
 use Rattle.range_map.specs.Range.{IsRange, in_numbers}

@@ -30,7 +30,7 @@ fn answer<T: Element, V: Drop, F: FnMut(&V) -> V>(f: &mut F, pair: &mut (Range<T
 }
 
 /// Calls `f` once for each pair, in order, with its value, and writes the answer in the value's
-/// place.
+/// place. O(n) time for n pairs, beside the calls, no memory.
 pub fn answer_each<T: Element, V: Drop, F: FnMut(&V) -> V>(f: &mut F, pairs: &mut [(Range<T>, V)])
     requires { F.IsAlwaysCallable f.old }
     ensures ranges { AreValuedRanges T.numbers pairs.new }
@@ -72,7 +72,7 @@ fn bring_forward<T: Element, V, F: FnMut(&V) -> bool>(
 }
 
 /// Calls `f` once for each pair, in order, with its value, and keeps the pairs at which it answers
-/// true.
+/// true. O(n) time for n pairs, beside the calls, no memory.
 pub fn retain_by_value<T: Element, V: Drop, F: FnMut(&V) -> bool>(
     pairs: &mut Vec<(Range<T>, V)>,
     mut f: F,
@@ -113,7 +113,8 @@ fn push_parts<T: Element, V: Clone + Drop>(
 }
 
 /// Returns the parts of each pair in the ranges of the set, in their order, each with a clone of
-/// the pair's value.
+/// the pair's value. O(n log m) time for n pairs and m ranges of the set, beside the clones, one
+/// for each pair of the answer.
 pub fn parts_in_set<T: Element, V: Clone + Drop>(
     alloc: Global,
     pairs: &[(Range<T>, V)],
@@ -131,7 +132,8 @@ pub fn parts_in_set<T: Element, V: Clone + Drop>(
     Ok(made)
 }
 
-/// Returns the pairs in their order, each with a clone of its value.
+/// Returns the pairs in their order, each with a clone of its value. O(n) time for n pairs, beside
+/// the clones.
 pub fn clones_of_pairs<T: Element, V: Clone + Drop>(
     alloc: Global,
     pairs: &[(Range<T>, V)],

@@ -5,7 +5,7 @@ ghost use Rattle.number_line.specs.Parts.{parts};
 ghost use Rattle.number_line.specs.Ranges.{holds, IsCanonical};
 ghost use Rattle.range_map.specs.Merging.{EndFrom};
 ghost use Rattle.range_map.specs.Range.{in_numbers, EachNumber};
-ghost use Rattle.range_map.specs.Set.{all_in_numbers};
+ghost use Rattle.range_map.specs.Set.{all_in_numbers, IsSet};
 
 mod counting;
 mod elements;
@@ -84,6 +84,26 @@ impl<T: Element> RangeSet<T> {
         let mut ranges = Vec::with_capacity(alloc, 1)?;
         ranges.push(range)?;
         Ok(RangeSet { ranges })
+    }
+
+    /// The set of ranges that are those of one already. O(1) time, no memory.
+    // For the crates whose operations make canonical lists themselves.
+    #[doc(hidden)]
+    pub fn from_canonical(ranges: Vec<Range<T>>) -> Self
+        requires { IsSet T.numbers ranges.items }
+        ensures { result ≡ all_in_numbers T.numbers ranges.items }
+    {
+        RangeSet { ranges }
+    }
+
+    /// The ranges, ascending. O(1) time, no memory.
+    // For the crates that walk over sets by their ranges.
+    #[doc(hidden)]
+    pub fn as_slice(&self) -> &[Range<T>]
+        ensures list { all_in_numbers T.numbers result.now ≡ self.now }
+        ensures canonical { IsCanonical T.numbers.least T.numbers.greatest self.now }
+    {
+        self.ranges.as_slice()
     }
 
     /// Returns whether no value is a member. O(1) time, no memory.
