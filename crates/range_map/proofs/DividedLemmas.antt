@@ -1,20 +1,21 @@
 -- The walk over pairs in order, as the three rules say it.
-use Rattle.std.proofs.Common.{◌≡◌, List, [], ◌∷◌, ◌++◌, ap, sym, ◌∙◌, append_assoc, append-nil}
-use Rattle.std.specs.Prelude.{ℤ, Bool, true, false}
+use Rattle.std.proofs.Common.{◌≡◌, List, [], ◌∷◌, ◌++◌, ap, arith, sym, ◌∙◌, append_assoc, append-nil}
+use Rattle.std.specs.Prelude.{ℤ, pos, ◌+ℤ◌, ◌≤ℤ◌, ◌<ℤ◌, Bool, true, false}
 use Rattle.std.specs.Int.{int_max}
 use Rattle.std.specs.List.{AllByRecursion}
 use Rattle.std.specs.List.Sorted.{IsPermutation, IsSortedBy, IsStableBy}
 use Rattle.std.specs.declared.cmp.Ordering.{Ordering}
+use Rattle.std.proofs.lemmas.Int.{ints}
 use Rattle.std.proofs.lemmas.List.{map_push}
 use Rattle.std.proofs.lemmas.List.MinMax.{ranks_by}
 use Rattle.std.proofs.lemmas.List.Sorted.{IsPermutation-map}
 use Rattle.element_core.specs.Numbering.{Numbering, IsNumbering}
 use Rattle.number_line.specs.Valued.{IsCanonicalMap}
 use Rattle.number_line.specs.Kept.{has_less_range, placed, Split, clashes, joins, grown, kept_from, kept_and_discarded, IsDivided}
-use Rattle.number_line.proofs.PlacedLemmas.{sorted_is_placed, map-placed, range_cmp_total}
-use Rattle.number_line.proofs.KeptLemmas.{IsWithin, divided}
+use Rattle.number_line.proofs.PlacedLemmas.{in_order_is_placed, in_order-placed, ranges_rank, sorted_is_placed, map-placed, range_cmp_total}
+use Rattle.number_line.proofs.KeptLemmas.{IsWithin, divided, canonical_is_kept}
 use Rattle.range_map.specs.Range.{IsRange, in_numbers}
-use Rattle.range_map.specs.Valued.{pair_in_numbers, pairs_in_numbers, AreValuedRanges}
+use Rattle.range_map.specs.Valued.{pair_in_numbers, pairs_in_numbers, AreValuedRanges, IsMap}
 
 -- a split with these before its kept and its discarded pairs
 abbrev pub behind : {V : Type 0} → List ((ℤ × ℤ) × V) → List ((ℤ × ℤ) × V) → Split V → Split V
@@ -99,6 +100,19 @@ module _ {T V : Type 0} (numbers : Numbering T) (cmp : T → T → Ordering) (nu
       divided same numbers.greatest reflexive numbers.least (pairs_in_numbers numbers given) (pairs_in_numbers numbers sorted) kept discarded
       (IsPermutation-map (pair_in_numbers numbers) given sorted moved) is_placed (within sorted ranges) rules
 
+  -- of sorted pairs that are the list of a map all is kept
+  pub sorted_is_whole : (given sorted : List ((T × T) × V)) → IsPermutation given sorted → pairs_in_numbers numbers sorted ≡ placed (pairs_in_numbers numbers given)
+      → IsMap numbers same sorted → IsDivided same (pairs_in_numbers numbers given) (pairs_in_numbers numbers sorted) []
+  sorted_is_whole given sorted moved is_placed map =
+      (divided_sorted given sorted list [] moved is_placed map.are_ranges
+      (ap (kept_and_discarded same) (sym again) ∙ canonical_is_kept same numbers.greatest numbers.least list map.canonical)).1
+    where
+      list : List ((ℤ × ℤ) × V)
+      list = pairs_in_numbers numbers sorted
+
+      again : placed list ≡ list
+      again = in_order_is_placed has_less_range ranges_rank list (rw is_placed (in_order-placed has_less_range ranges_rank [] (pairs_in_numbers numbers given) tt))
+
 -- a sort by range places the pairs
 pub sorted_by_range : {T V : Type 0} (numbers : Numbering T) (given sorted : List ((T × T) × V))
     → IsSortedBy (λ a b. has_less_range (pair_in_numbers numbers a) (pair_in_numbers numbers b)) sorted
@@ -108,3 +122,40 @@ sorted_by_range {T} {V} numbers given sorted s t =
     ap (pairs_in_numbers numbers) (sorted_is_placed (λ (a b : (T × T) × V). has_less_range (pair_in_numbers numbers a) (pair_in_numbers numbers b))
     (ranks_by range_cmp_total (λ (p : (T × T) × V). in_numbers numbers p.0)) given sorted s t)
     ∙ map-placed has_less_range (pair_in_numbers numbers) [] given
+
+-- ---- pairs that are the list of a map, one after the other
+
+module _ {T V : Type 0} (numbers : Numbering T) (same : V → V → Bool) where
+  -- what is known of the pairs once `last` was passed: where those from it on are in order, all are
+  pub record IsMapTo (all : List ((T × T) × V)) (last : (T × T) × V) (rest : List ((T × T) × V)) : Type 0 where
+    pub last_is_range : IsRange numbers last.0
+    pub low : numbers.least ≤ℤ numbers.number last.0.0
+    pub ranges : AreValuedRanges numbers (last ∷ rest) → AreValuedRanges numbers all
+    pub canonical : IsCanonicalMap same (numbers.number last.0.0) numbers.greatest (pairs_in_numbers numbers (last ∷ rest))
+        → IsCanonicalMap same numbers.least numbers.greatest (pairs_in_numbers numbers all)
+
+  pub map_begins : (all : List ((T × T) × V)) (first : (T × T) × V) (rest : List ((T × T) × V)) → all ≡ first ∷ rest → IsRange numbers first.0
+      → numbers.least ≤ℤ numbers.number first.0.0 → IsMapTo all first rest
+  map_begins all first rest is range low = record {
+    last_is_range = range;
+    low = low;
+    ranges = λ h. rw is h;
+    canonical = λ h. rw is (low, h.1, h.2, h.3, h.4);
+  }
+
+  pub map_goes_on : (all : List ((T × T) × V)) (last : (T × T) × V) (left : List ((T × T) × V)) (next : (T × T) × V) (rest : List ((T × T) × V)) → left ≡ next ∷ rest
+      → IsRange numbers next.0 → numbers.number last.0.1 ≤ℤ numbers.greatest → numbers.number last.0.1 <ℤ numbers.number next.0.0
+      → (numbers.number next.0.0 ≡ numbers.number last.0.1 +ℤ pos 1 → same last.1 next.1 ≡ false) → IsMapTo all last left → IsMapTo all next rest
+  map_goes_on all last left next rest is range high behind differs m = record {
+    last_is_range = range;
+    low = let low = m.low in let ordered = m.last_is_range.ordered in omega (arith, ints);
+    ranges = λ h. m.ranges (m.last_is_range, rw is h);
+    canonical = λ h. m.canonical (omega (arith, ints), m.last_is_range.ordered, high, rw is differs, rw is (omega (arith, ints), h.1, h.2, h.3, h.4));
+  }
+
+  pub map_ends : (all : List ((T × T) × V)) (last : (T × T) × V) (left : List ((T × T) × V)) → left ≡ [] → numbers.number last.0.1 ≤ℤ numbers.greatest → IsMapTo all last left
+      → IsMap numbers same all
+  map_ends all last left is high m = record {
+    are_ranges = m.ranges (m.last_is_range, rw is tt);
+    canonical = m.canonical (omega (arith, ints), m.last_is_range.ordered, high, rw is tt, rw is tt);
+  }

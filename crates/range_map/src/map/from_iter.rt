@@ -1,5 +1,6 @@
 //! Maps made from pairs of a range and a value in any order.
 ghost use Rattle.std.specs.Prelude.{◌≡◌, List, [], OnOk, IfOk, IfErr};
+ghost use Rattle.std.specs.Bool.{OnTrue};
 ghost use Rattle.std.specs.Int.{int_max};
 ghost use Rattle.std.specs.Iterator.{IsFinite, Drains};
 ghost use Rattle.std.specs.List.Sorted.{IsPermutation};
@@ -12,6 +13,7 @@ ghost use Rattle.range_map.specs.MapError.{IfOverlap};
 
 use crate::map::RangeMap;
 use crate::map::error::{OverlapError, TryFromIterError};
+use crate::map::growing::continues;
 use crate::range::Range;
 use element_core::{Element, NoMemory, compare, is_below};
 use std::alloc::Global;
@@ -110,6 +112,28 @@ fn sort_by_range<T: Element, V>(pairs: &mut Vec<(Range<T>, V)>) -> Result<(), No
     Ok(())
 }
 
+// Returns whether the pairs are the list of a map: their ranges ascend without overlap, and those
+// that touch have different values. O(n) time for n pairs, no memory.
+fn is_map<T: Element, V: Eq>(pairs: &[(Range<T>, V)]) -> bool
+    ensures { OnTrue result (IsMap T.numbers V.eq pairs.now) }
+{
+    let Some((first, rest)) = pairs.split_first() else {
+        return true;
+    };
+    let mut last = first;
+    // These tell that the ranges lie within the type.
+    last.0.start();
+    for pair in rest {
+        let end = last.0.end();
+        if !is_below(end, pair.0.start()) || continues(last, &pair.0, &pair.1) {
+            return false;
+        }
+        last = pair;
+    }
+    last.0.end();
+    true
+}
+
 // Returns which of the pairs are kept, as the list of a map, and which are discarded.
 fn divide<T: Element, V: Eq + Drop>(
     alloc: Global,
@@ -122,6 +146,13 @@ fn divide<T: Element, V: Eq + Drop>(
         (pairs_in_numbers T.numbers divided.discarded.items)) }
 {
     sort_by_range(&mut pairs)?;
+    if is_map(pairs.as_slice()) {
+        // Nothing is joined or discarded, so nothing is copied.
+        return Ok(Divided {
+            kept: pairs,
+            discarded: Vec::new(alloc),
+        });
+    }
     let divided = divide_sorted(alloc, pairs)?;
     Ok(divided)
 }
