@@ -12,15 +12,15 @@ use blaze_joins::RangeMapBlaze;
 use element_core::{Element, NoMemory};
 use std::alloc::Global;
 
-// At `i64` the number of a key is the key itself.
-pub(crate) fn has_value(map: &RangeMapBlaze<i64, u8>, key: i64) -> bool
+/// At `i64` the number of a key is the key itself.
+pub fn has_value(map: &RangeMapBlaze<i64, u8>, key: i64) -> bool
     ensures { result ≡ is_some (value_at map.now key) }
 {
     map.get(key).is_some()
 }
 
-// Returns whether the map has a value at `key` once its gaps are filled: it has one at every key.
-pub(crate) fn has_value_when_filled(
+/// Returns whether the map has a value at `key` once its gaps are filled: it has one at every key.
+pub fn has_value_when_filled(
     alloc: Global,
     map: &RangeMapBlaze<i64, u8>,
     key: i64,
@@ -31,9 +31,9 @@ pub(crate) fn has_value_when_filled(
     Ok(filled.get(key).is_some())
 }
 
-// Returns the bookings of two calendars at each moment at which one of them has any. The elements
-// are the outer join of the elements of the two.
-pub(crate) fn side_by_side<T: Element, V: Eq + Copy, W: Eq + Copy>(
+/// Returns the bookings of two calendars at each moment at which one of them has any. The elements
+/// are the outer join of the elements of the two.
+pub fn side_by_side<T: Element, V: Eq + Copy, W: Eq + Copy>(
     alloc: Global,
     mine: &RangeMapBlaze<T, V>,
     yours: &RangeMapBlaze<T, W>,
@@ -51,9 +51,9 @@ pub(crate) fn side_by_side<T: Element, V: Eq + Copy, W: Eq + Copy>(
     Ok(map)
 }
 
-// Returns the bookings of two calendars at each moment at which both have one. The elements are
-// the join of the elements of the two.
-pub(crate) fn clashes<T: Element, V: Eq + Copy, W: Eq + Copy>(
+/// Returns the bookings of two calendars at each moment at which both have one. The elements are
+/// the join of the elements of the two.
+pub fn clashes<T: Element, V: Eq + Copy, W: Eq + Copy>(
     alloc: Global,
     mine: &RangeMapBlaze<T, V>,
     yours: &RangeMapBlaze<T, W>,

@@ -1,7 +1,7 @@
 //! What no contract shows: that the calls succeed where memory suffices, and that the contracts say
 //! what is meant.
-use blaze_joins::RangeMapBlaze;
 use crate::callers::{has_value, has_value_when_filled};
+use blaze_joins::RangeMapBlaze;
 use element_core::{Element, NoMemory};
 use range_map::Range;
 use std::alloc::Global;

@@ -1,4 +1,5 @@
 //! What no contract shows: that the calls succeed where memory suffices, and cuts that people know.
+use crate::callers::{added, changed};
 use cut_points::{all_cuts, contains_by_cuts, cuts, difference, from_cuts, symmetric_difference};
 use element_core::{Element, NoMemory};
 use range_map::{Range, RangeSet};
@@ -156,5 +157,17 @@ fn members_of_just_one_and_of_the_left_alone(rt: HostRuntime) -> Result<(), Fail
     let alone = difference(alloc, &left, &right)?;
     assert_eq!(rt; ends_of(alloc, &alone)?.as_slice(), [(1, 3)].as_slice());
     assert!(rt; symmetric_difference(alloc, &left, &left)?.is_empty());
+    Ok(())
+}
+
+#[test]
+fn what_changed_between_two_lists(rt: HostRuntime) -> Result<(), Fail> {
+    let alloc = rt.alloc();
+    let before = two_of(alloc, Range::new(1u32, 4), Range::new(9, 9))?;
+    let after = two_of(alloc, Range::new(3u32, 6), Range::new(9, 9))?;
+    let changed = ends_of(alloc, &changed(alloc, &before, &after)?)?;
+    assert_eq!(rt; changed.as_slice(), [(1, 2), (5, 6)].as_slice());
+    let added = ends_of(alloc, &added(alloc, &before, &after)?)?;
+    assert_eq!(rt; added.as_slice(), [(5, 6)].as_slice());
     Ok(())
 }

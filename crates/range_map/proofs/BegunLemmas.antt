@@ -1,8 +1,8 @@
 -- Which ranges have begun, and the last of them that holds a number.
 use Rattle.std.proofs.Common.{◌≡◌, ℕ, zero, suc, ◌+◌, ◌<◌, ◌≤◌, List, [], ◌∷◌, ◌++◌, length, refl, ap, arith, sym, ◌∙◌}
-use Rattle.std.specs.Prelude.{◌==◌, ℤ, ◌≤ℤ◌, ◌<ℤ◌, Bool, true, false, ◌&&◌, ◌||◌, int_le, map, Option, Some, None, IfSome, IfNone}
+use Rattle.std.specs.Prelude.{◌==◌, ℤ, ◌≤ℤ◌, ◌<ℤ◌, Bool, true, false, ◌||◌, map, Option, Some, None, IfSome, IfNone}
 use Rattle.std.specs.BinaryHeap.{IsHeap, IsUpperBound, PopsGreatest}
-use Rattle.std.specs.List.{All, list_any, slice_get, slice_index_or}
+use Rattle.std.specs.List.{All, slice_get, slice_index_or}
 use Rattle.std.specs.List.Sorted.{IsPermutation}
 use Rattle.std.specs.Ordering.{nat_cmp}
 use Rattle.std.proofs.lemmas.Int.{ints}
@@ -16,7 +16,7 @@ use Rattle.number_line.specs.Ranges.{lies_in}
 use Rattle.range_map.specs.Range.{in_numbers}
 use Rattle.range_map.specs.Valued.{pairs_in_numbers}
 use Rattle.range_map.specs.Bounds.{ranges_of, has_place, AllBehind}
-use Rattle.range_map.specs.Begun.{Begun, BeginsBy, IsStartOf, is_known, AreBegun, NoneHoldsFrom, IsLastAt, IsLastTo, FirstReaches}
+use Rattle.range_map.specs.Begun.{Begun, BeginsBy, IsStartOf, AreBegun, NoneHoldsFrom, IsLastTo, FirstReaches}
 use Rattle.range_map.proofs.BoundLemmas.{same_place}
 
 -- ---- the range at a place

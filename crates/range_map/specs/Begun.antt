@@ -1,5 +1,5 @@
 -- Which of several ranges have begun, as a number ascends, and which is the last that holds it. Ranges are known by their places.
-use Rattle.std.specs.Prelude.{◌≡◌, ◌≤◌, ℕ, suc, ℤ, ◌≤ℤ◌, ◌<ℤ◌, Bool, true, false, ◌||◌, Option, Some, None, List, [], ◌∷◌, map}
+use Rattle.std.specs.Prelude.{◌≡◌, ◌≤◌, ℕ, suc, ℤ, ◌≤ℤ◌, Bool, true, false, ◌||◌, Option, Some, None, List, [], ◌∷◌, map}
 use Rattle.std.specs.List.{All, slice_get}
 use Rattle.number_line.specs.Ranges.{lies_in}
 use Rattle.range_map.specs.Bounds.{has_place}
@@ -26,7 +26,8 @@ is_known begun place = has_place begun.places place || has_place (map (λ start.
 pub record AreBegun (ranges : List (ℤ × ℤ)) (n : ℤ) (begun : Begun) : Type 0 where
   pub before : (place : ℕ) → has_place begun.places place ≡ true → BeginsBy ranges n place
   pub starts : All (IsStartOf ranges) begun.rest
-  pub complete : (place : ℕ) (r : ℤ × ℤ) (x : ℤ) → slice_get ranges place ≡ Some r → n ≤ℤ x → lies_in r x ≡ true → is_known begun place ≡ true
+  pub complete : (place : ℕ) (r : ℤ × ℤ) (x : ℤ) → slice_get ranges place ≡ Some r → n ≤ℤ x → lies_in r x ≡ true
+      → is_known begun place ≡ true
 
 -- no range from the place n on holds x
 abbrev pub NoneHoldsFrom : List (ℤ × ℤ) → ℕ → ℤ → Type 0

@@ -4,12 +4,12 @@ ghost use Rattle.std.specs.Prelude.{◌≡◌, ℤ, pos, ◌||◌, ◌≤ℤ◌,
 ghost use Rattle.number_line.specs.Ranges.{lies_in, holds};
 ghost use Rattle.range_map.specs.Set.{all_in_numbers};
 
-use range_map::{Range, RangeSet};
 use element_core::{Element, NoMemory, is_at_most};
+use range_map::{Range, RangeSet};
 use std::alloc::Global;
 
-// Returns the range between two values, or `None` where they aren't in order.
-pub(crate) fn between<T: Element>(a: T, b: T) -> Option<Range<T>>
+/// Returns the range between two values, or `None` where they aren't in order.
+pub fn between<T: Element>(a: T, b: T) -> Option<Range<T>>
     ensures range { IfSome result (λ range. range ≡ (a, b)) }
     ensures turned { IfNone result (T.numbers.number b <ℤ T.numbers.number a) }
 {
@@ -20,8 +20,8 @@ pub(crate) fn between<T: Element>(a: T, b: T) -> Option<Range<T>>
     }
 }
 
-// At `i64` the numbers of a set are the values themselves.
-pub(crate) fn two_runs(alloc: Global) -> Result<RangeSet<i64>, NoMemory>
+/// At `i64` the numbers of a set are the values themselves.
+pub fn two_runs(alloc: Global) -> Result<RangeSet<i64>, NoMemory>
     ensures { IfOk result
         (λ set. (x : ℤ) → holds set x ≡ (lies_in (pos 1, pos 5) x || lies_in (pos 8, pos 9) x)) }
 {
@@ -30,7 +30,7 @@ pub(crate) fn two_runs(alloc: Global) -> Result<RangeSet<i64>, NoMemory>
     small.union(alloc, &large)
 }
 
-pub(crate) fn listed(alloc: Global, set: &RangeSet<i64>) -> Result<Vec<Range<i64>>, NoMemory>
+pub fn listed(alloc: Global, set: &RangeSet<i64>) -> Result<Vec<Range<i64>>, NoMemory>
     ensures { IfOk result (λ list. list.items ≡ set.now) }
 {
     let mut list = Vec::with_capacity(alloc, set.num_ranges())?;
@@ -40,10 +40,7 @@ pub(crate) fn listed(alloc: Global, set: &RangeSet<i64>) -> Result<Vec<Range<i64
     Ok(list)
 }
 
-pub(crate) fn first_and_rest(
-    alloc: Global,
-    set: &RangeSet<i64>,
-) -> Result<Vec<Range<i64>>, NoMemory>
+pub fn first_and_rest(alloc: Global, set: &RangeSet<i64>) -> Result<Vec<Range<i64>>, NoMemory>
     ensures { IfOk result (λ list. list.items ≡ set.now) }
 {
     let mut list = Vec::new(alloc);
@@ -57,10 +54,7 @@ pub(crate) fn first_and_rest(
     Ok(list)
 }
 
-pub(crate) fn collected<T: Element>(
-    alloc: Global,
-    set: &RangeSet<T>,
-) -> Result<Vec<Range<T>>, NoMemory>
+pub fn collected<T: Element>(alloc: Global, set: &RangeSet<T>) -> Result<Vec<Range<T>>, NoMemory>
     ensures { IfOk result (λ list. all_in_numbers T.numbers list.items ≡ set.now) }
 {
     Ok(set.ranges().collect(alloc)?)

@@ -1,8 +1,8 @@
 //! What no contract shows of maps that are changed, walked by key, or cut by a set.
 ghost use Rattle.std.specs.Prelude.{◌≡◌};
 
-use range_map::{Range, RangeMap, RangeSet};
 use element_core::NoMemory;
+use range_map::{Range, RangeMap, RangeSet};
 use std::alloc::{AllocError, Global};
 use std::test::Fail;
 

@@ -1,6 +1,6 @@
 //! What sets made from ranges in any order hold, by example.
-use range_map::{Range, RangeSet};
 use element_core::NoMemory;
+use range_map::{Range, RangeSet};
 use std::alloc::Global;
 use std::test::Fail;
 

@@ -1,8 +1,7 @@
 //! The proved callers and tests of `range_map`, as a crate that stands on it writes them.
 #![tactic(auto)]
 
-#[cfg(test)]
-mod callers;
+pub mod callers;
 #[cfg(test)]
 mod changing_tests;
 #[cfg(test)]
@@ -11,7 +10,6 @@ mod from_iter_tests;
 mod map_tests;
 #[cfg(test)]
 mod tests;
-#[cfg(test)]
-mod whole_callers;
+pub mod whole_callers;
 #[cfg(test)]
 mod whole_tests;

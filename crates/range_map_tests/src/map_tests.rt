@@ -1,6 +1,6 @@
 //! What maps made from pairs hold, by example.
-use range_map::{OverlapError, Range, RangeMap, TryFromIterError};
 use element_core::NoMemory;
+use range_map::{OverlapError, Range, RangeMap, TryFromIterError};
 use std::alloc::Global;
 use std::hash::{DefaultHasher, Hash, Hasher};
 use std::test::Fail;

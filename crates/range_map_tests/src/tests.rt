@@ -1,8 +1,8 @@
 //! What no contract shows: that the calls succeed where memory suffices, and that the contracts say
 //! what is meant.
 use crate::callers::{between, collected, first_and_rest, listed, two_runs};
-use range_map::{Range, RangeSet};
 use element_core::{Element, NoMemory};
+use range_map::{Range, RangeSet};
 use std::alloc::Global;
 use std::cmp::Ordering;
 use std::hash::{DefaultHasher, Hash, Hasher};

@@ -3,8 +3,8 @@
 use crate::whole_callers::{
     cancel, day_by_day, free_days, hand_over, in_season, lets_in, shut_but,
 };
-use range_map::{Range, RangeMap, RangeSet};
 use element_core::{Element, NoMemory};
+use range_map::{Range, RangeMap, RangeSet};
 use std::alloc::Global;
 use std::process::Abort;
 use std::test::Fail;

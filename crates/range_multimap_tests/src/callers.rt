@@ -1,12 +1,12 @@
 //! What a caller learns of a multimap: one more pair, and some pairs less.
 ghost use Rattle.std.specs.Prelude.{◌≡◌, [], ◌∷◌, ◌++◌, ◌==◌, not, filter, OnOk};
 
-use range_multimap::RangeMultiMap;
 use element_core::NoMemory;
 use range_map::Range;
+use range_multimap::RangeMultiMap;
 
-// At `i32` the numbers of a range are its two values.
-pub(crate) fn push_pair(
+/// At `i32` the numbers of a range are its two values.
+pub fn push_pair(
     pairs: &mut RangeMultiMap<i32, u8>,
     range: Range<i32>,
     value: u8,
@@ -19,8 +19,8 @@ pub(crate) fn push_pair(
     }
 }
 
-// Takes the pairs with a value out.
-pub(crate) fn drop_value(pairs: &mut RangeMultiMap<i32, u8>, value: u8)
+/// Takes the pairs with a value out.
+pub fn drop_value(pairs: &mut RangeMultiMap<i32, u8>, value: u8)
     ensures { pairs.new ≡ filter (λ pair. not (pair.1 == value)) pairs.old }
 {
     pairs.retain_values(|other| *other != value);

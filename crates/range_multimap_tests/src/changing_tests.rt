@@ -1,8 +1,8 @@
 //! What no contract shows of multimaps that are changed, or cut by a set.
-use range_multimap::RangeMultiMap;
 use crate::callers::drop_value;
 use element_core::NoMemory;
 use range_map::{Range, RangeSet};
+use range_multimap::RangeMultiMap;
 use std::alloc::Global;
 use std::test::Fail;
 

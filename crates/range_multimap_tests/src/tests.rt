@@ -3,9 +3,9 @@
 ghost use Rattle.std.specs.Prelude.{◌≡◌};
 
 use crate::callers::push_pair;
-use range_multimap::{Group, RangeMultiMap};
 use element_core::NoMemory;
 use range_map::{Range, RangeMap};
+use range_multimap::{Group, RangeMultiMap};
 use std::alloc::{AllocError, Global};
 use std::hash::{DefaultHasher, Hash, Hasher};
 use std::test::Fail;

@@ -1,6 +1,6 @@
 //! Multimaps from lists and back, and groups as lists, by example.
-use range_multimap::{Group, RangeMultiMap};
 use range_map::Range;
+use range_multimap::{Group, RangeMultiMap};
 use std::test::Fail;
 
 #[test]

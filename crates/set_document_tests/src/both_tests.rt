@@ -1,6 +1,6 @@
 //! One table of texts through both evaluators, and texts at the borders of a block.
-use set_document::{AlgebraError, Answer, evaluate, evaluate_by_sets};
 use element_core::NoMemory;
+use set_document::{AlgebraError, Answer, evaluate, evaluate_by_sets};
 use std::alloc::Global;
 use std::process::Abort;
 

@@ -3,6 +3,7 @@
 
 #[cfg(test)]
 mod both_tests;
+pub mod callers;
 #[cfg(test)]
 mod sample_tests;
 #[cfg(test)]

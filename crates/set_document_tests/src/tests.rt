@@ -1,9 +1,10 @@
 //! What no contract shows: that the calls answer where memory suffices, and that the definitions
 //! say what is meant.
+use crate::callers::answered_again;
+use element_core::NoMemory;
 use set_document::{
     AlgebraError, LineForm, Word, evaluate, evaluate_document, read_line, read_word, truths_at,
 };
-use element_core::NoMemory;
 use std::alloc::Global;
 use std::process::Abort;
 use std::test::Fail;
@@ -374,5 +375,15 @@ fn faults_are_written(rt: HostRuntime) -> Result<(), Fail> {
     assert!(&rt; format!(in alloc; "{memory}")?.as_str() == "no memory");
     let short = NoMemory;
     assert!(&rt; format!(in alloc; "{short}")?.as_str() == "no memory");
+    Ok(())
+}
+
+#[test]
+fn an_answer_is_its_own_answer(rt: HostRuntime) -> Result<(), AlgebraError> {
+    let alloc = rt.alloc();
+    let text = b"a: 1..=5 4..=8 ^\nb: a !\n";
+    let once = evaluate_document(alloc, text)?;
+    let again = answered_again(alloc, text)?;
+    assert!(rt; again == once);
     Ok(())
 }

@@ -1,23 +1,23 @@
 //! Callers as a user would write them, each proved to learn what it needs.
-#![tactic(auto, using(sorted_iter::specs::Sources::sources, sorted_iter::proofs::Literals::literals))]
+#![tactic(
+    auto,
+    using(sorted_iter::specs::Sources::sources, sorted_iter::proofs::Literals::literals)
+)]
 
 ghost use Rattle.std.specs.Prelude.{◌≡◌, IfOk, IfSome, Some, Option};
 ghost use Rattle.std.specs.Iterator.{IsFinite};
-ghost use Rattle.std.specs.List.Sorted.{IsStrictlySortedBy};
-ghost use Rattle.std.specs.Ordering.{nat_cmp};
 ghost use Rattle.ordered_lists.specs.Lists.{union};
 ghost use Rattle.sorted_iter.specs.Orders.{RunsAre};
 ghost use Rattle.sorted_iter.specs.Streams.{union_steps};
 ghost use Rattle.sorted_iter.specs.Subsets.{TellsOfLists, is_within};
 
 use sorted_iter::{AssumeSortedByItemExt, OneOrLess, SortedIterator, Union};
-use element_core::NoMemory;
 use std::alloc::{AllocError, Global};
 use std::collections::{BTreeMap, BTreeSet};
 use std::iter::once;
 
-// Returns the first item, and then the union of the rest with another stream.
-pub(crate) fn union_after_first<I: SortedIterator, J: SortedIterator<Item = I::Item>>(
+/// Returns the first item, and then the union of the rest with another stream.
+pub fn union_after_first<I: SortedIterator, J: SortedIterator<Item = I::Item>>(
     mut left: I,
     right: J,
 ) -> Option<(I::Item, Union<I, J>)>
@@ -35,8 +35,8 @@ where
     Some((first, left.union(right)))
 }
 
-// Returns the items of two sets that are given up.
-pub(crate) fn items_of_either<K: Ord + Drop>(
+/// Returns the items of two sets that are given up.
+pub fn items_of_either<K: Ord + Drop>(
     alloc: Global,
     a: BTreeSet<K>,
     b: BTreeSet<K>,
@@ -46,8 +46,8 @@ pub(crate) fn items_of_either<K: Ord + Drop>(
     a.into_iter().union(b.into_iter()).collect(alloc)
 }
 
-// Returns the keys that two maps have in common, as a stream.
-pub(crate) fn shared_keys<K: Ord + Copy, V, W>(
+/// Returns the keys that two maps have in common, as a stream.
+pub fn shared_keys<K: Ord + Copy, V, W>(
     alloc: Global,
     a: &BTreeMap<K, V>,
     b: &BTreeMap<K, W>,
@@ -55,28 +55,28 @@ pub(crate) fn shared_keys<K: Ord + Copy, V, W>(
     a.keys().intersection(b.keys()).copied().collect(alloc)
 }
 
-// Returns an array that is written out, and a range.
-pub(crate) fn written_out(alloc: Global) -> Result<Vec<u32>, AllocError> {
+/// Returns an array that is written out, and a range.
+pub fn written_out(alloc: Global) -> Result<Vec<u32>, AllocError> {
     let listed = [1u32, 2, 5].iter().copied().assume_sorted_by_item();
     listed.union(2..4).collect(alloc)
 }
 
-// Returns a stream without its first item and without those that are odd, and one more item.
-pub(crate) fn even_with_one_more(alloc: Global) -> Result<Vec<u32>, AllocError> {
+/// Returns a stream without its first item and without those that are odd, and one more item.
+pub fn even_with_one_more(alloc: Global) -> Result<Vec<u32>, AllocError> {
     let even = (0..9u32).skip(1).filter(|x| *x % 2 == 0);
     even.union(once(5)).collect(alloc)
 }
 
-// Returns the first items of a stream: `take` and then `fuse`.
-pub(crate) fn first_of_union(alloc: Global, n: usize) -> Result<Vec<u32>, AllocError> {
+/// Returns the first items of a stream: `take` and then `fuse`.
+pub fn first_of_union(alloc: Global, n: usize) -> Result<Vec<u32>, AllocError> {
     let first = (0..9u32).take(n).fuse();
     first
         .union(Some(14).into_iter().map(|x| x / 2))
         .collect(alloc)
 }
 
-// Returns whether one stream is within another.
-pub(crate) fn is_part_of<I: SortedIterator, J: SortedIterator<Item = I::Item>>(a: I, b: J) -> bool
+/// Returns whether one stream is within another.
+pub fn is_part_of<I: SortedIterator, J: SortedIterator<Item = I::Item>>(a: I, b: J) -> bool
 where
     I::Item: Ord + Drop,
     requires can_a { I.can_next a }
@@ -90,103 +90,8 @@ where
     a.is_subset(b)
 }
 
-// Returns the union, and what is left of it after its first item, each by a copy of the stream.
-pub(crate) fn copies_of_union(
-    alloc: Global,
-    a: &[u32],
-    b: &[u32],
-) -> Result<(Vec<u32>, Vec<u32>), NoMemory>
-    requires left { IsStrictlySortedBy nat_cmp a.now }
-    requires right { IsStrictlySortedBy nat_cmp b.now }
-{
-    let left = a.iter().copied().assume_sorted_by_item();
-    let mut stream = left.union(b.iter().copied().assume_sorted_by_item());
-    let fresh = stream.try_clone()?;
-    drop(stream.next());
-    let rest = stream.try_clone()?;
-    Ok((fresh.collect(alloc)?, rest.collect(alloc)?))
-}
-
-// Returns the intersection, and what is left of it after its first item, each by a copy of the
-// stream.
-pub(crate) fn copies_of_intersection(
-    alloc: Global,
-    a: &[u32],
-    b: &[u32],
-) -> Result<(Vec<u32>, Vec<u32>), NoMemory>
-    requires left { IsStrictlySortedBy nat_cmp a.now }
-    requires right { IsStrictlySortedBy nat_cmp b.now }
-{
-    let left = a.iter().copied().assume_sorted_by_item();
-    let mut stream = left.intersection(b.iter().copied().assume_sorted_by_item());
-    let fresh = stream.try_clone()?;
-    drop(stream.next());
-    let rest = stream.try_clone()?;
-    Ok((fresh.collect(alloc)?, rest.collect(alloc)?))
-}
-
-// Returns the difference, and what is left of it after its first item, each by a copy of the
-// stream.
-pub(crate) fn copies_of_difference(
-    alloc: Global,
-    a: &[u32],
-    b: &[u32],
-) -> Result<(Vec<u32>, Vec<u32>), NoMemory>
-    requires left { IsStrictlySortedBy nat_cmp a.now }
-    requires right { IsStrictlySortedBy nat_cmp b.now }
-{
-    let left = a.iter().copied().assume_sorted_by_item();
-    let mut stream = left.difference(b.iter().copied().assume_sorted_by_item());
-    let fresh = stream.try_clone()?;
-    drop(stream.next());
-    let rest = stream.try_clone()?;
-    Ok((fresh.collect(alloc)?, rest.collect(alloc)?))
-}
-
-// Returns the symmetric difference, and what is left of it after its first item, each by a copy of
-// the stream.
-pub(crate) fn copies_of_symmetric_difference(
-    alloc: Global,
-    a: &[u32],
-    b: &[u32],
-) -> Result<(Vec<u32>, Vec<u32>), NoMemory>
-    requires left { IsStrictlySortedBy nat_cmp a.now }
-    requires right { IsStrictlySortedBy nat_cmp b.now }
-{
-    let left = a.iter().copied().assume_sorted_by_item();
-    let mut stream = left.symmetric_difference(b.iter().copied().assume_sorted_by_item());
-    let fresh = stream.try_clone()?;
-    drop(stream.next());
-    let rest = stream.try_clone()?;
-    Ok((fresh.collect(alloc)?, rest.collect(alloc)?))
-}
-
-// Returns the pairs of a stream, and what is left of them after the first one, each by a copy of
-// the stream.
-pub(crate) fn copies_of_pairs(
-    alloc: Global,
-    a: &[u32],
-) -> Result<(Vec<(u32, ())>, Vec<(u32, ())>), NoMemory>
-    requires { IsStrictlySortedBy nat_cmp a.now }
-{
-    let mut stream = a.iter().copied().assume_sorted_by_item().pairs();
-    let fresh = stream.try_clone()?;
-    drop(stream.next());
-    let rest = stream.try_clone()?;
-    Ok((fresh.collect(alloc)?, rest.collect(alloc)?))
-}
-
-// Returns a stream by assumption and its copy.
-pub(crate) fn copy_of_assumed(alloc: Global, a: &[u32]) -> Result<Vec<u32>, NoMemory>
-    requires { IsStrictlySortedBy nat_cmp a.now }
-{
-    let mut stream = a.iter().copied().assume_sorted_by_item();
-    drop(stream.next());
-    Ok(stream.try_clone()?.collect(alloc)?)
-}
-
-// Returns whether an item comes.
-pub(crate) fn has_item<I: OneOrLess>(mut it: I) -> bool
+/// Returns whether an item comes.
+pub fn has_item<I: OneOrLess>(mut it: I) -> bool
 where
     I::Item: Drop,
     requires can { I.can_next it }

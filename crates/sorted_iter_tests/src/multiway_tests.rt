@@ -10,8 +10,8 @@ ghost use Rattle.ordered_lists.specs.Multiway.{IsMultiwayUnion};
 ghost use Rattle.sorted_iter.specs.Orders.{GivesList};
 ghost use Rattle.sorted_iter.specs.MultiwayClones.{ComesAlike};
 
-use sorted_iter::{MultiwayUnion, SortedByItem, SortedIterator, Union, multiway_union};
 use element_core::NoMemory;
+use sorted_iter::{MultiwayUnion, SortedByItem, SortedIterator, Union, multiway_union};
 use std::alloc::Global;
 use std::collections::BTreeSet;
 use std::ops::Range;

@@ -1,10 +1,16 @@
 //! Copies, pairs, tests on two streams, hints, marks and both ends: each at a concrete type.
-#![tactic(auto, using(sorted_iter::specs::Sources::sources, sorted_iter::proofs::Literals::literals))]
+#![tactic(
+    auto,
+    using(sorted_iter::specs::Sources::sources, sorted_iter::proofs::Literals::literals)
+)]
 
 use crate::callers::{
+    even_with_one_more, first_of_union, has_item, is_part_of, items_of_either, shared_keys,
+    union_after_first, written_out,
+};
+use crate::copies::{
     copies_of_difference, copies_of_intersection, copies_of_pairs, copies_of_symmetric_difference,
-    copies_of_union, copy_of_assumed, even_with_one_more, first_of_union, has_item, is_part_of,
-    items_of_either, shared_keys, union_after_first, written_out,
+    copies_of_union, copy_of_assumed,
 };
 use sorted_iter::{AssumeSortedByItemExt, SortedIterator};
 use std::collections::{BTreeMap, BTreeSet};

@@ -3,18 +3,16 @@
 
 ghost use Rattle.std.specs.Prelude.{◌≡◌, IfOk, IfSome, Some};
 ghost use Rattle.std.specs.List.Sorted.{IsStrictlySortedBy};
-ghost use Rattle.std.specs.Ordering.{nat_cmp};
 ghost use Rattle.ordered_lists.specs.Joins.{keys, join, left_join, right_join, outer_join};
 ghost use Rattle.ordered_lists.specs.Lists.{by_key};
 ghost use Rattle.sorted_pairs.specs.JoinStreams.{join_steps};
 ghost use Rattle.sorted_pairs.specs.Joined.{JoinsRuns};
 
 use sorted_pairs::{AssumeSortedByKeyExt, Join, SortedPairIterator};
-use element_core::NoMemory;
 use std::alloc::{AllocError, Global};
 
-// Returns the first pair, and then the join of the rest with another stream.
-pub(crate) fn join_after_first<
+/// Returns the first pair, and then the join of the rest with another stream.
+pub fn join_after_first<
     K: Ord + Drop,
     V: Drop,
     W: Drop,
@@ -33,8 +31,8 @@ where
     Some((first, left.join(right)))
 }
 
-// Returns the pairs of two slices that have one key.
-pub(crate) fn join_of<K: Ord + Copy, V: Copy, W: Copy>(
+/// Returns the pairs of two slices that have one key.
+pub fn join_of<K: Ord + Copy, V: Copy, W: Copy>(
     alloc: Global,
     a: &[(K, V)],
     b: &[(K, W)],
@@ -48,8 +46,8 @@ pub(crate) fn join_of<K: Ord + Copy, V: Copy, W: Copy>(
     left.join(right).collect(alloc)
 }
 
-// Returns each pair of the first slice, with the second one's value.
-pub(crate) fn left_join_of<K: Ord + Copy, V: Copy, W: Copy>(
+/// Returns each pair of the first slice, with the second one's value.
+pub fn left_join_of<K: Ord + Copy, V: Copy, W: Copy>(
     alloc: Global,
     a: &[(K, V)],
     b: &[(K, W)],
@@ -63,8 +61,8 @@ pub(crate) fn left_join_of<K: Ord + Copy, V: Copy, W: Copy>(
     left.left_join(right).collect(alloc)
 }
 
-// Returns each pair of the second slice, with the first one's value.
-pub(crate) fn right_join_of<K: Ord + Copy, V: Copy, W: Copy>(
+/// Returns each pair of the second slice, with the first one's value.
+pub fn right_join_of<K: Ord + Copy, V: Copy, W: Copy>(
     alloc: Global,
     a: &[(K, V)],
     b: &[(K, W)],
@@ -78,8 +76,8 @@ pub(crate) fn right_join_of<K: Ord + Copy, V: Copy, W: Copy>(
     left.right_join(right).collect(alloc)
 }
 
-// Returns each key of either slice, with both values.
-pub(crate) fn outer_join_of<K: Ord + Copy, V: Copy, W: Copy>(
+/// Returns each key of either slice, with both values.
+pub fn outer_join_of<K: Ord + Copy, V: Copy, W: Copy>(
     alloc: Global,
     a: &[(K, V)],
     b: &[(K, W)],
@@ -93,11 +91,8 @@ pub(crate) fn outer_join_of<K: Ord + Copy, V: Copy, W: Copy>(
     left.outer_join(right).collect(alloc)
 }
 
-// Returns the keys of a slice of pairs.
-pub(crate) fn keys_of<K: Ord + Copy, V: Copy>(
-    alloc: Global,
-    a: &[(K, V)],
-) -> Result<Vec<K>, AllocError>
+/// Returns the keys of a slice of pairs.
+pub fn keys_of<K: Ord + Copy, V: Copy>(alloc: Global, a: &[(K, V)]) -> Result<Vec<K>, AllocError>
     requires { IsStrictlySortedBy (by_key K.cmp) a.now }
     ensures { IfOk result (λ v. v.items ≡ keys a.now) }
 {
@@ -106,119 +101,4 @@ pub(crate) fn keys_of<K: Ord + Copy, V: Copy>(
         .assume_sorted_by_key()
         .keys()
         .collect(alloc)
-}
-
-// Returns the join, and what is left of it after its first item, each by a copy of the stream.
-pub(crate) fn copies_of_join(
-    alloc: Global,
-    a: &[(u32, char)],
-    b: &[(u32, char)],
-) -> Result<(Vec<(u32, (char, char))>, Vec<(u32, (char, char))>), NoMemory>
-    requires left { IsStrictlySortedBy (by_key nat_cmp) a.now }
-    requires right { IsStrictlySortedBy (by_key nat_cmp) b.now }
-{
-    let left = a.iter().copied().assume_sorted_by_key();
-    let mut stream = left.join(b.iter().copied().assume_sorted_by_key());
-    let fresh = stream.try_clone()?;
-    drop(stream.next());
-    let rest = stream.try_clone()?;
-    Ok((fresh.collect(alloc)?, rest.collect(alloc)?))
-}
-
-// Returns the left join, and what is left of it after its first item, each by a copy of the
-// stream.
-pub(crate) fn copies_of_left_join(
-    alloc: Global,
-    a: &[(u32, char)],
-    b: &[(u32, char)],
-) -> Result<
-    (
-        Vec<(u32, (char, Option<char>))>,
-        Vec<(u32, (char, Option<char>))>,
-    ),
-    NoMemory,
->
-    requires left { IsStrictlySortedBy (by_key nat_cmp) a.now }
-    requires right { IsStrictlySortedBy (by_key nat_cmp) b.now }
-{
-    let left = a.iter().copied().assume_sorted_by_key();
-    let mut stream = left.left_join(b.iter().copied().assume_sorted_by_key());
-    let fresh = stream.try_clone()?;
-    drop(stream.next());
-    let rest = stream.try_clone()?;
-    Ok((fresh.collect(alloc)?, rest.collect(alloc)?))
-}
-
-// Returns the right join, and what is left of it after its first item, each by a copy of the
-// stream.
-pub(crate) fn copies_of_right_join(
-    alloc: Global,
-    a: &[(u32, char)],
-    b: &[(u32, char)],
-) -> Result<
-    (
-        Vec<(u32, (Option<char>, char))>,
-        Vec<(u32, (Option<char>, char))>,
-    ),
-    NoMemory,
->
-    requires left { IsStrictlySortedBy (by_key nat_cmp) a.now }
-    requires right { IsStrictlySortedBy (by_key nat_cmp) b.now }
-{
-    let left = a.iter().copied().assume_sorted_by_key();
-    let mut stream = left.right_join(b.iter().copied().assume_sorted_by_key());
-    let fresh = stream.try_clone()?;
-    drop(stream.next());
-    let rest = stream.try_clone()?;
-    Ok((fresh.collect(alloc)?, rest.collect(alloc)?))
-}
-
-// Returns the outer join, and what is left of it after its first item, each by a copy of the
-// stream.
-pub(crate) fn copies_of_outer_join(
-    alloc: Global,
-    a: &[(u32, char)],
-    b: &[(u32, char)],
-) -> Result<
-    (
-        Vec<(u32, (Option<char>, Option<char>))>,
-        Vec<(u32, (Option<char>, Option<char>))>,
-    ),
-    NoMemory,
->
-    requires left { IsStrictlySortedBy (by_key nat_cmp) a.now }
-    requires right { IsStrictlySortedBy (by_key nat_cmp) b.now }
-{
-    let left = a.iter().copied().assume_sorted_by_key();
-    let mut stream = left.outer_join(b.iter().copied().assume_sorted_by_key());
-    let fresh = stream.try_clone()?;
-    drop(stream.next());
-    let rest = stream.try_clone()?;
-    Ok((fresh.collect(alloc)?, rest.collect(alloc)?))
-}
-
-// Returns the keys, and what is left of them after the first one, each by a copy of the stream.
-pub(crate) fn copies_of_keys(
-    alloc: Global,
-    a: &[(u32, char)],
-) -> Result<(Vec<u32>, Vec<u32>), NoMemory>
-    requires { IsStrictlySortedBy (by_key nat_cmp) a.now }
-{
-    let mut stream = a.iter().copied().assume_sorted_by_key().keys();
-    let fresh = stream.try_clone()?;
-    drop(stream.next());
-    let rest = stream.try_clone()?;
-    Ok((fresh.collect(alloc)?, rest.collect(alloc)?))
-}
-
-// Returns what is left of a stream by assumption after its first item, by a copy.
-pub(crate) fn copy_of_assumed(
-    alloc: Global,
-    a: &[(u32, char)],
-) -> Result<Vec<(u32, char)>, NoMemory>
-    requires { IsStrictlySortedBy (by_key nat_cmp) a.now }
-{
-    let mut stream = a.iter().copied().assume_sorted_by_key();
-    drop(stream.next());
-    Ok(stream.try_clone()?.collect(alloc)?)
 }

@@ -3,12 +3,14 @@
 #![tactic(auto, using(sorted_pairs::specs::Sources::sources, crate::proofs::Literals::literals))]
 
 use crate::callers::{
-    copies_of_join, copies_of_keys, copies_of_left_join, copies_of_outer_join,
-    copies_of_right_join, copy_of_assumed, join_after_first, join_of, keys_of, left_join_of,
-    outer_join_of, right_join_of,
+    join_after_first, join_of, keys_of, left_join_of, outer_join_of, right_join_of,
 };
-use sorted_pairs::{AssumeSortedByKeyExt, SortedPairIterator};
+use crate::copies::{
+    copies_of_join, copies_of_keys, copies_of_left_join, copies_of_outer_join,
+    copies_of_right_join, copy_of_assumed,
+};
 use sorted_iter::SortedIterator;
+use sorted_pairs::{AssumeSortedByKeyExt, SortedPairIterator};
 use std::alloc::Global;
 use std::collections::BTreeMap;
 use std::iter::{empty, once};

@@ -6,8 +6,8 @@ use sorted_vector_map::laws::{clones_are_equal, refilled_keeps_keys, refilled_ke
 use sorted_vector_map::{Entry, Keys, NoMemory, Refused, SortedVectorMap};
 use std::alloc::{AllocError, Global};
 
-// The value that was put in, read at its key.
-pub(crate) fn put_and_read<K: Ord + Copy + Drop>(
+/// The value that was put in, read at its key.
+pub fn put_and_read<K: Ord + Copy + Drop>(
     ages: &mut SortedVectorMap<K, u32>,
     key: K,
     age: u32,
@@ -18,8 +18,8 @@ pub(crate) fn put_and_read<K: Ord + Copy + Drop>(
     Ok(*ages.index(&key))
 }
 
-// The value at a key, which `or_insert` puts in where it is missing.
-pub(crate) fn read_or_insert<K: Ord + Copy + Drop>(
+/// The value at a key, which `or_insert` puts in where it is missing.
+pub fn read_or_insert<K: Ord + Copy + Drop>(
     ages: &mut SortedVectorMap<K, u32>,
     key: K,
     age: u32,
@@ -28,8 +28,8 @@ pub(crate) fn read_or_insert<K: Ord + Copy + Drop>(
     Ok(*ages.index(&key))
 }
 
-// The same by `or_insert_with`.
-pub(crate) fn read_or_insert_with<K: Ord + Copy + Drop>(
+/// The same by `or_insert_with`.
+pub fn read_or_insert_with<K: Ord + Copy + Drop>(
     ages: &mut SortedVectorMap<K, u32>,
     key: K,
     age: u32,
@@ -38,8 +38,8 @@ pub(crate) fn read_or_insert_with<K: Ord + Copy + Drop>(
     Ok(*ages.index(&key))
 }
 
-// The same by `or_default`.
-pub(crate) fn read_or_default<K: Ord + Copy + Drop>(
+/// The same by `or_default`.
+pub fn read_or_default<K: Ord + Copy + Drop>(
     ages: &mut SortedVectorMap<K, u32>,
     key: K,
 ) -> Result<u32, Refused<(K, u32)>> {
@@ -47,8 +47,8 @@ pub(crate) fn read_or_default<K: Ord + Copy + Drop>(
     Ok(*ages.index(&key))
 }
 
-// The same by `VacantEntry::insert`.
-pub(crate) fn read_or_fill<K: Ord + Copy + Drop>(
+/// The same by `VacantEntry::insert`.
+pub fn read_or_fill<K: Ord + Copy + Drop>(
     ages: &mut SortedVectorMap<K, u32>,
     key: K,
     age: u32,
@@ -62,8 +62,8 @@ pub(crate) fn read_or_fill<K: Ord + Copy + Drop>(
     }
 }
 
-// Whether a clone of the map is equal to it, which it is where clones of values are.
-pub(crate) fn clone_is_equal<K: Ord + Clone + Drop, V: PartialEq + Clone + Drop>(
+/// Whether a clone of the map is equal to it, which it is where clones of values are.
+pub fn clone_is_equal<K: Ord + Clone + Drop, V: PartialEq + Clone + Drop>(
     alloc: Global,
     stock: &SortedVectorMap<K, V>,
 ) -> Result<bool, NoMemory>
@@ -76,8 +76,8 @@ pub(crate) fn clone_is_equal<K: Ord + Clone + Drop, V: PartialEq + Clone + Drop>
     Ok(copy == *stock)
 }
 
-// Writes one price for all: the keys stay, and their number.
-pub(crate) fn set_all(prices: &mut SortedVectorMap<u32, u32>, price: u32)
+/// Writes one price for all: the keys stay, and their number.
+pub fn set_all(prices: &mut SortedVectorMap<u32, u32>, price: u32)
     ensures keys { map (λ p. p.0) prices.new.pairs ≡ map (λ p. p.0) prices.old.pairs }
     ensures len { length prices.new.pairs ≡ length prices.old.pairs }
 {
@@ -88,8 +88,8 @@ pub(crate) fn set_all(prices: &mut SortedVectorMap<u32, u32>, price: u32)
     }
 }
 
-// Whether a clone of the keys gives what they give, from either end, which it does.
-pub(crate) fn clone_gives_the_same(keys: &mut Keys<'_, u32, u32>) -> Result<bool, AllocError>
+/// Whether a clone of the keys gives what they give, from either end, which it does.
+pub fn clone_gives_the_same(keys: &mut Keys<'_, u32, u32>) -> Result<bool, AllocError>
     ensures { IfOk result (λ same. same ≡ true) }
 {
     let mut copy = keys.clone()?;

@@ -1,7 +1,7 @@
 //! What is written through the iterators that lend values stands in the map.
 
-use sorted_vector_map::SortedVectorMap;
 use crate::callers::set_all;
+use sorted_vector_map::SortedVectorMap;
 use std::alloc::Global;
 use std::ops::Bound;
 use std::test::Fail;

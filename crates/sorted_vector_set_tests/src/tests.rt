@@ -4,7 +4,7 @@ ghost use Rattle.std.specs.Ordering.{nat_cmp};
 ghost use Rattle.std.specs.Range.Bound.{bound_map};
 ghost use Rattle.ordered_lists.specs.Bounds.{AreInOrder};
 
-use crate::callers::{stream_of, those_between};
+use crate::callers::{is_let_in, stream_of, those_between};
 use sorted_vector_set::{NoMemory, SortedVectorSet};
 use std::alloc::Global;
 use std::collections::BTreeSet;
@@ -222,6 +222,16 @@ fn items_come_from_both_ends(rt: HostRuntime) -> Result<(), Fail> {
     let mut owned = set.into_iter();
     assert_eq!(rt; (owned.next_back(), owned.next()), (Some(4), Some(1)));
     assert_eq!(rt; owned.len(), 2);
+    Ok(())
+}
+
+#[test]
+fn who_is_let_in(rt: HostRuntime) -> Result<(), Fail> {
+    let guests = set_of(rt.alloc(), &[1, 2, 3])?;
+    let barred = set_of(rt.alloc(), &[3, 4])?;
+    for (guest, wanted) in [(1, true), (3, false), (4, false), (5, false)] {
+        assert!(rt; is_let_in(&guests, &barred, guest) == wanted);
+    }
     Ok(())
 }
 

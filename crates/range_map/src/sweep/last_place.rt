@@ -8,8 +8,8 @@ ghost use Rattle.range_map.specs.Sweep.{DoNotFallFrom};
 ghost use Rattle.range_map.specs.Valued.{pairs_in_numbers};
 
 use crate::range::Range;
-use crate::sweep::bounds::{Bound, end_before};
 use crate::sweep::Stretch;
+use crate::sweep::bounds::{Bound, end_before};
 use element_core::{Element, NoMemory, compare, is_below};
 use std::alloc::Global;
 use std::collections::BinaryHeap;
@@ -146,11 +146,7 @@ impl<T: Element> LastPlace<'_, T> {
     /// `pairs` whose range holds `x`, and up to which value it is that place. O(log n) time for
     /// each range that begins or is found to have ended, of n pairs. After `NoMemory` the same
     /// value, or a greater one, may be entered still.
-    pub fn enter<V>(
-        &mut self,
-        pairs: &[(Range<T>, V)],
-        x: T,
-    ) -> Result<Stretch<T, usize>, NoMemory>
+    pub fn enter<V>(&mut self, pairs: &[(Range<T>, V)], x: T) -> Result<Stretch<T, usize>, NoMemory>
         requires { AreBegun (ranges_of (pairs_in_numbers T.numbers pairs.now))
             (T.numbers.number x) self.old }
         ensures goes_on { (n : ℤ) → T.numbers.number x ≤ℤ n

@@ -66,9 +66,11 @@ pub returns-clause-stays : goal.returns-clause-stays
 returns-clause-stays g c =
     let numbers = g.T.Element.numbers in
     let end = c.end_before.ensures in
-    let high = end.high in
-    (end.order, λ ranges active y low up place. held_alike numbers.greatest ranges (numbers.number c.args.x) y
-    (record { places = c.in_ok-odd.odd.items; rest = bounds_in_numbers numbers c.loop-bound.rest.now }) low (omega (arith, ints))
-    (all_behind-lower y _ _ up end.behind)
-    (λ place x low high. told_end numbers.greatest ranges (numbers.number c.args.x) _ _ _ _ c.in_ok-sort.ensures.permutation
-    (rw c.as_slice-2.ensures.value at c.in_ok-odd.ensures.odd) (c.loop-bound.invariant.told ranges active) place x low high) place)
+    let high = end.high in (
+      end.order,
+      λ ranges active y low up place. held_alike numbers.greatest ranges (numbers.number c.args.x) y
+          (record { places = c.in_ok-odd.odd.items; rest = bounds_in_numbers numbers c.loop-bound.rest.now }) low (omega (arith, ints))
+          (all_behind-lower y _ _ up end.behind)
+          (λ place x low high. told_end numbers.greatest ranges (numbers.number c.args.x) _ _ _ _ c.in_ok-sort.ensures.permutation
+          (rw c.as_slice-2.ensures.value at c.in_ok-odd.ensures.odd) (c.loop-bound.invariant.told ranges active) place x low high) place,
+    )

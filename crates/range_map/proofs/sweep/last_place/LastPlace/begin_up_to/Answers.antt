@@ -1,6 +1,5 @@
-use Rattle.std.proofs.Common.{◌∷◌, arith, ap}
+use Rattle.std.proofs.Common.{◌∷◌, ap}
 use Rattle.std.specs.Prelude.{map}
-use Rattle.std.proofs.lemmas.Int.{ints}
 use Rattle.std.proofs.lemmas.List.{nil_from_length}
 use Rattle.range_map.specs.Sweep.{DoNotFallFrom}
 use Rattle.range_map.specs.Bounds.{bound_in_numbers, bounds_in_numbers}

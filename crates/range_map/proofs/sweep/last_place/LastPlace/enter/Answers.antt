@@ -1,12 +1,10 @@
-use Rattle.std.proofs.Common.{◌≡◌, ◌<◌, ◌∷◌, length, arith, refl, sym, subst}
-use Rattle.std.specs.Prelude.{ℤ, Some}
-use Rattle.std.specs.List.{slice_get}
+use Rattle.std.proofs.Common.{◌≡◌, length, arith, refl, sym, subst}
 use Rattle.std.proofs.lemmas.Int.{ints}
 use Rattle.std.proofs.lemmas.List.{nil_from_length}
 use Rattle.std.proofs.lemmas.Option.{slice_get_read}
 use Rattle.range_map.specs.Begun.{AreBegun}
 use Rattle.range_map.specs.Range.{in_numbers}
-use Rattle.range_map.specs.Bounds.{ranges_of, bounds_in_numbers}
+use Rattle.range_map.specs.Bounds.{ranges_of}
 use Rattle.range_map.specs.Valued.{pairs_in_numbers}
 use Rattle.range_map.proofs.BegunLemmas.{range_there, place_within, first_is, has_first, begun_on, first_reaches, none_is_last, greatest_is_last}
 use Rattle.range_map.proofs.sweep.last_place.LastPlace.enter.Goals as goal

@@ -1,4 +1,4 @@
-use Rattle.std.proofs.Common.{rules, ◌≡◌, [], ◌∷◌, ◌+◌, ◌++◌, length, arith, ap, sym, refl, ◌∙◌}
+use Rattle.std.proofs.Common.{rules, ◌≡◌, length, arith, ap, sym, refl}
 use Rattle.std.specs.Prelude.{Some}
 use Rattle.std.specs.List.{slice_get}
 use Rattle.std.proofs.lemmas.Cmp.{int_cmp_total}
@@ -8,9 +8,8 @@ use Rattle.std.proofs.lemmas.List.{map-append}
 use Rattle.std.proofs.lemmas.List.Elements.{All-nil, All-push}
 use Rattle.std.proofs.lemmas.List.MinMax.{ranks_by}
 use Rattle.std.proofs.lemmas.List.Sorted.{answers_always, IsPermutation-map}
-use Rattle.range_map.specs.Range.{in_numbers}
 use Rattle.range_map.specs.Valued.{pairs_in_numbers}
-use Rattle.range_map.specs.Bounds.{ranges_of, bound_in_numbers, bounds_in_numbers}
+use Rattle.range_map.specs.Bounds.{ranges_of, bound_in_numbers}
 use Rattle.range_map.proofs.BoundLemmas.{values_permuted, sorted_do_not_fall, ByNumber}
 use Rattle.range_map.proofs.BegunLemmas.{range_there, no_starts, start_pushed, starts_permuted, all_to_begin}
 use Rattle.range_map.proofs.sweep.last_place.Starts.new.Goals as goal

@@ -1,0 +1,14 @@
+use Rattle.sorted_pairs.specs.Sources.{clones-of_listed}
+use Rattle.sorted_pairs_tests.proofs.copies.copies_of_right_join.Goals as goal
+
+pub try_clone-requires-clause-left : goal.try_clone-requires-clause-left
+try_clone-requires-clause-left c = clones-of_listed _ _ (λ _ _ k. k) (λ _ _ k. k)
+
+pub try_clone-requires-clause-right : goal.try_clone-requires-clause-right
+try_clone-requires-clause-right c = clones-of_listed _ _ (λ _ _ k. k) (λ _ _ k. k)
+
+pub try_clone-requires-2-clause-left : goal.try_clone-requires-2-clause-left
+try_clone-requires-2-clause-left c = clones-of_listed _ _ (λ _ _ k. k) (λ _ _ k. k)
+
+pub try_clone-requires-2-clause-right : goal.try_clone-requires-2-clause-right
+try_clone-requires-2-clause-right c = clones-of_listed _ _ (λ _ _ k. k) (λ _ _ k. k)
