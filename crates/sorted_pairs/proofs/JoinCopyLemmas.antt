@@ -1,6 +1,6 @@
 -- Copies of joins: what is to come from them.
-use Rattle.std.proofs.Common.{◌≡◌, Bool, true, false, cond, List, [], ◌∷◌, ◌++◌, map, Option, Some, None, option_to_list, inl, inr, refl, sym, subst, ◌∙◌}
-use Rattle.std.specs.Iterator.{Count, AlwaysYields}
+use Rattle.std.proofs.Common.{◌≡◌, Bool, true, false, cond, List, [], ◌∷◌, ◌++◌, map, Option, Some, option_to_list, inl, inr, refl, subst, ◌∙◌}
+use Rattle.std.specs.Iterator.{Count}
 use Rattle.std.specs.Cmp.{IsTotalOrder, IsPartialOrder}
 use Rattle.std.specs.List.{AllZip}
 use Rattle.std.specs.List.Sorted.{IsStrictlySortedBy}
@@ -21,7 +21,7 @@ use Rattle.sorted_pairs.specs.declared.matching.EitherOrBoth.{EitherOrBoth}
 use Rattle.sorted_pairs.specs.declared.matching.EitherOrBoth.TheVariants.{Left, Both, Right}
 use Rattle.sorted_pairs.specs.JoinCopies.{IsSelfOrClone, IsBothCopy, IsLeftCopy, IsRightCopy, IsEitherCopy, IsJoinCopy}
 use Rattle.sorted_pairs.specs.MatchLaws.{join-walk, left_join-walk, right_join-walk, outer_join-walk}
-use Rattle.sorted_pairs.specs.Matches.{across, matches, matches_from, read_all, item_of_both, item_of_left, item_of_right, item_of_either, join_walk, left_join_walk, right_join_walk, outer_join_walk}
+use Rattle.sorted_pairs.specs.Matches.{across, matches, read_all, item_of_both, item_of_left, item_of_right, item_of_either, join_walk, left_join_walk, right_join_walk, outer_join_walk}
 
 -- ---- lists of alike items
 

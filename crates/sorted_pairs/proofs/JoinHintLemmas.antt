@@ -1,12 +1,11 @@
 -- Hints bound what is to come from a join: how long the four joins are.
-use Rattle.std.proofs.Common.{◌≡◌, ℕ, suc, ◌+◌, ◌≤◌, ◌^◌, Bool, true, false, List, [], ◌∷◌, map, length, Option, Some, None, refl, sym, ap, subst, ◌∙◌, arith}
+use Rattle.std.proofs.Common.{◌≡◌, suc, ◌≤◌, List, [], ◌∷◌, map, length, Option, None, refl, sym, ap, subst, ◌∙◌, arith}
 use Rattle.std.specs.Iterator.{Count}
 use Rattle.std.specs.Cmp.{IsTotalOrder}
 use Rattle.std.specs.List.Sorted.{IsStrictlySortedBy}
 use Rattle.std.specs.declared.cmp.Ordering.{Ordering}
 use Rattle.ordered_lists.specs.Joins.{keys, join, left_join, right_join, outer_join}
 use Rattle.ordered_lists.specs.Lists.{by_key, union}
-use Rattle.ordered_lists.specs.Walks.{walk}
 use Rattle.ordered_lists.proofs.PairLemmas.{keys_ascend}
 use Rattle.ordered_lists.proofs.PlaceLemmas.{by_order}
 use Rattle.ordered_lists.proofs.WalkLemmas.{walk-union}
@@ -15,7 +14,7 @@ use Rattle.sorted_iter.specs.Hints.{Hint, IsHint, Bounds, ahead_hint, union_hint
 use Rattle.sorted_iter.proofs.HintLemmas.{sum-bounds, lesser-bounds, falls, ahead-bounds, UnionLength, union-length}
 use Rattle.sorted_pairs.specs.JoinHints.{IsJoinHint, left_hint, right_hint}
 use Rattle.sorted_pairs.specs.MatchLaws.{join-walk}
-use Rattle.sorted_pairs.specs.Matches.{across, matches, read_all, item_of_both, join_walk}
+use Rattle.sorted_pairs.specs.Matches.{read_all, item_of_both, join_walk}
 
 same-length : {A B : Type 0} (view : A → B) (xs : List A) → length (map view xs) ≡ length xs
 same-length view [] = refl

@@ -1,5 +1,5 @@
 -- What the four joins give: their order, their runs and their lists.
-use Rattle.std.proofs.Common.{◌≡◌, List, [], ◌∷◌, ◌++◌, Option, Some, None, option_to_list, refl, sym, ap, subst, ◌∙◌}
+use Rattle.std.proofs.Common.{◌≡◌, List, Option, refl, sym, ap, subst, ◌∙◌}
 use Rattle.std.specs.Iterator.{Yields, AlwaysYields}
 use Rattle.std.specs.Cmp.{IsTotalOrder}
 use Rattle.std.specs.List.Sorted.{IsStrictlySortedBy}
@@ -15,7 +15,7 @@ use Rattle.sorted_iter.proofs.StreamLemmas.{ahead_ascends, fresh_gives, behind}
 use Rattle.sorted_pairs.specs.JoinStreams.{keys_ascend}
 use Rattle.sorted_pairs.specs.Joined.{JoinsRuns, JoinsLists}
 use Rattle.sorted_pairs.specs.MatchLaws.{join-walk, left_join-walk, right_join-walk, outer_join-walk}
-use Rattle.sorted_pairs.specs.Matches.{read_all, join_walk, left_join_walk, right_join_walk, outer_join_walk}
+use Rattle.sorted_pairs.specs.Matches.{join_walk, left_join_walk, right_join_walk, outer_join_walk}
 
 module _ {S T K V W : Type 0} {firsts : S → Option (K × V) → S → Type 0} {seconds : T → Option (K × W) → T → Type 0} where
   pub sides-ascend : (cmp : K → K → Ordering) {x : S} {y : T} (s : Sides S T (K × V) (K × W)) → s ≡ sides_of x y → InOrder (by_key cmp) firsts x → InOrder (by_key cmp) seconds y → keys_ascend cmp firsts seconds s

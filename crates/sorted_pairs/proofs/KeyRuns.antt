@@ -1,6 +1,6 @@
 -- What the stream of keys gives, and its copies.
-use Rattle.std.proofs.Common.{◌≡◌, ℕ, suc, zero, Bool, true, List, [], ◌∷◌, Option, Some, None, refl, sym, ap, ap₂, subst, ◌∙◌}
-use Rattle.std.specs.Iterator.{Count, Yields, YieldsThen, DrainsIf, AlwaysYields}
+use Rattle.std.proofs.Common.{◌≡◌, ℕ, suc, zero, true, List, [], ◌∷◌, Option, refl, sym, ap, subst, ◌∙◌}
+use Rattle.std.specs.Iterator.{Count, Yields, DrainsIf, AlwaysYields}
 use Rattle.std.specs.Iterator.Runs.{SomeRun, EachRunFrom}
 use Rattle.std.proofs.iter.runs.Made.{run, took}
 use Rattle.ordered_lists.specs.Joins.{keys}

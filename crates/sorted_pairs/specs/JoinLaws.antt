@@ -1,5 +1,5 @@
 -- The laws of the mark of the four joins.
-use Rattle.std.proofs.Common.{◌≡◌, List, Option, sym, subst}
+use Rattle.std.proofs.Common.{List, Option, sym, subst}
 use Rattle.std.specs.Cmp.{IsTotalOrder}
 use Rattle.std.specs.List.Sorted.{IsStrictlySortedBy}
 use Rattle.std.specs.declared.cmp.Ordering.{Ordering}

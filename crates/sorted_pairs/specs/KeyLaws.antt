@@ -1,5 +1,5 @@
 -- The laws of the mark of the stream of keys.
-use Rattle.std.proofs.Common.{◌≡◌, inl, List, [], Option, Some, None, refl}
+use Rattle.std.proofs.Common.{◌≡◌, inl, [], Option, Some, None, refl}
 use Rattle.std.specs.declared.cmp.Ordering.{Ordering}
 use Rattle.ordered_lists.specs.Lists.{by_key}
 use Rattle.sorted_iter.specs.AdapterLaws.{adapted-in_order}

@@ -1,5 +1,5 @@
 -- On lists that ascend by their keys the walk gives the four joins, and each of them ascends.
-use Rattle.std.proofs.Common.{◌≡◌, Bool, true, false, List, [], ◌∷◌, ◌++◌, map, Option, Some, None, refl, sym, ap, ap₂, subst, ◌∙◌}
+use Rattle.std.proofs.Common.{◌≡◌, true, List, [], ◌∷◌, map, Option, Some, None, refl, sym, ap, ap₂, subst, ◌∙◌}
 use Rattle.std.specs.Cmp.{IsTotalOrder, tied_itself}
 use Rattle.std.specs.List.{AllByRecursion}
 use Rattle.std.specs.List.Sorted.{IsStrictlySortedBy}
@@ -7,14 +7,13 @@ use Rattle.std.specs.Ordering.{match_ordering, ordering_reverse}
 use Rattle.std.specs.declared.cmp.Ordering.{Ordering}
 use Rattle.std.specs.declared.cmp.Ordering.TheVariants.{Less, Equal, Greater}
 use Rattle.ordered_lists.specs.Joins.{found, keys, left_join, right_join, having_both, if_both, join, outer_join}
-use Rattle.ordered_lists.specs.Lists.{by_key, union}
-use Rattle.ordered_lists.specs.Walks.{walk, walk_from}
+use Rattle.ordered_lists.specs.Lists.{by_key}
+use Rattle.ordered_lists.specs.Walks.{walk}
 use Rattle.ordered_lists.proofs.PairLemmas.{keys_ascend, pairs_ascend}
 use Rattle.ordered_lists.proofs.PlaceLemmas.{all_map, by_order, greater_less, equal_back}
 use Rattle.ordered_lists.proofs.WalkLemmas.{ascends-walk, walk-union, ascends-union}
-use Rattle.sorted_pairs.specs.declared.matching.EitherOrBoth.{EitherOrBoth}
-use Rattle.sorted_pairs.specs.declared.matching.EitherOrBoth.TheVariants.{Left, Both, Right}
-use Rattle.sorted_pairs.specs.Matches.{across, matches, matches_from, read_all, item_of_both, item_of_left, item_of_right, item_of_either, join_walk, left_join_walk, right_join_walk, outer_join_walk}
+use Rattle.sorted_pairs.specs.declared.matching.EitherOrBoth.TheVariants.{Left, Right}
+use Rattle.sorted_pairs.specs.Matches.{read_all, item_of_both, item_of_left, item_of_right, item_of_either, join_walk, left_join_walk, right_join_walk, outer_join_walk}
 
 -- `by_order` of two things at once
 by_order₂ : {B C : Type 0} (P : B → C → Type 0) (r : Ordering) (a b c : B) (d e f : C) → (r ≡ Less → P a d) → (r ≡ Equal → P b e)

@@ -12,7 +12,7 @@ use Rattle.sorted_iter.specs.Orders.{InOrder, Rests}
 use Rattle.sorted_pairs.specs.declared.map_values.MapValues.{MapValues}
 use Rattle.sorted_pairs.specs.declared.filter_map_values.FilterMapValues.{FilterMapValues}
 use Rattle.sorted_pairs.specs.Calls.{MayBeCalled, CallsAlong, values, revalued, kept, IsSubsequence}
-use Rattle.sorted_pairs.specs.ValueStreams.{map_values_source, map_values_closure, map_values_steps, filter_map_values_source, filter_map_values_closure, filter_map_values_steps, MapsTaken, FiltersTaken, CallsInTurn, AsksInTurn, EitherEnd, CallsFromEitherEnd}
+use Rattle.sorted_pairs.specs.ValueStreams.{map_values_source, map_values_closure, map_values_steps, filter_map_values_source, filter_map_values_closure, filter_map_values_steps, MapsTaken, CallsInTurn, AsksInTurn, EitherEnd, CallsFromEitherEnd}
 
 -- after a call on the value of a pair that came, the closure may be called on what is still to come
 pub called-on : {S K V R F : Type 0} (steps : S → Option (K × V) → S → Type 0) (g : Mut F (V × Unit {0}) R) (s t : S) (p : K × V) (f h : F)

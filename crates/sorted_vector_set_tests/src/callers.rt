@@ -1,5 +1,5 @@
-//! What the caller of a guest list learns, and a stream of `sorted_iter` that is made from a set, by
-//! what the set says of its items.
+//! What the caller of a guest list learns, and a stream of `sorted_iter` that is made from a set,
+//! by what the set says of its items.
 #![tactic(auto, using(sorted_iter::specs::Sources::sources))]
 
 ghost use Rattle.std.specs.Prelude.{◌≡◌, ◌&&◌, not};

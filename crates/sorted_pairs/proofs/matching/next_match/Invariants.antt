@@ -2,7 +2,7 @@ use Rattle.std.proofs.Common.{◌+◌}
 use Rattle.std.specs.Iterator.{size}
 use Rattle.sorted_iter.specs.Lookahead.{ahead_left}
 use Rattle.sorted_pairs.specs.Matches.{across}
-use Rattle.sorted_pairs.proofs.MatchSteps.{Walk, Walked}
+use Rattle.sorted_pairs.proofs.MatchSteps.{Walked}
 use Rattle.sorted_pairs.proofs.matching.next_match.Given as goal
 
 abbrev pub invariant-walk : goal.invariant-walk
