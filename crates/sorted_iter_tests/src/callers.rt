@@ -1,8 +1,5 @@
 //! Callers as a user would write them, each proved to learn what it needs.
-#![tactic(
-    auto,
-    using(sorted_iter::specs::Sources::sources, sorted_iter::proofs::Literals::literals)
-)]
+#![tactic(auto, using(sorted_iter::specs::Sources::sources, crate::proofs::Literals::literals))]
 
 ghost use Rattle.std.specs.Prelude.{◌≡◌, IfOk, IfSome, Some, Option};
 ghost use Rattle.std.specs.Iterator.{IsFinite};

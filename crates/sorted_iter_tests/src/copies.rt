@@ -1,8 +1,5 @@
 //! Streams and what is left of them, each by a copy.
-#![tactic(
-    auto,
-    using(sorted_iter::specs::Sources::sources, sorted_iter::proofs::Literals::literals)
-)]
+#![tactic(auto, using(sorted_iter::specs::Sources::sources, crate::proofs::Literals::literals))]
 
 ghost use Rattle.std.specs.List.Sorted.{IsStrictlySortedBy};
 ghost use Rattle.std.specs.Ordering.{nat_cmp};

@@ -1,8 +1,5 @@
 //! Copies, pairs, tests on two streams, hints, marks and both ends: each at a concrete type.
-#![tactic(
-    auto,
-    using(sorted_iter::specs::Sources::sources, sorted_iter::proofs::Literals::literals)
-)]
+#![tactic(auto, using(sorted_iter::specs::Sources::sources, crate::proofs::Literals::literals))]
 
 use crate::callers::{
     even_with_one_more, first_of_union, has_item, is_part_of, items_of_either, shared_keys,

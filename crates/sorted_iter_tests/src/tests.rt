@@ -1,8 +1,5 @@
 //! Callers of the streams, each proved to learn the list that it gets, and lists that people know.
-#![tactic(
-    auto,
-    using(sorted_iter::specs::Sources::sources, sorted_iter::proofs::Literals::literals)
-)]
+#![tactic(auto, using(sorted_iter::specs::Sources::sources, crate::proofs::Literals::literals))]
 
 ghost use Rattle.std.specs.Prelude.{◌≡◌, IfOk};
 ghost use Rattle.std.specs.List.Sorted.{IsStrictlySortedBy};
