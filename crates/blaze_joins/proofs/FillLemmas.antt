@@ -5,7 +5,6 @@ use Rattle.std.specs.Option.{option_eq}
 use Rattle.std.specs.Cmp.{IsEquivalence}
 use Rattle.std.specs.Cmp.Lexicographic.{options_equiv}
 use Rattle.std.proofs.lemmas.Int.{ints, by_lt_z}
-use Rattle.element_core.specs.Numbering.{Numbering}
 use Rattle.number_line.specs.Merged.{FirstStays}
 use Rattle.number_line.specs.Parts.{IsPairClone, ArePairClones}
 use Rattle.number_line.specs.Valued.{value_at, StopsBefore, IsCanonicalMap, HasValues}
@@ -13,8 +12,6 @@ use Rattle.number_line.proofs.CloneLemmas.{zipped_append, clones_same, clones_va
 use Rattle.number_line.proofs.SameLemmas.{canonical_same}
 use Rattle.number_line.proofs.ValuedLemmas.{inside, behind, value_in_first, value_in_rest, none_before_first}
 use Rattle.number_line.proofs.ZippedLemmas.{IsZipped, zipped_step, zipped_end}
-use Rattle.range_map.specs.Valued.{pairs_in_numbers}
-use Rattle.range_map.proofs.GrowthLemmas.{in_numbers-push}
 use Rattle.blaze_joins.specs.Filled.{IsOptionClone, gap_before, with_gaps}
 
 lt_yes : (x y : ℤ) → x <ℤ y → int_lt x y ≡ true
@@ -42,13 +39,6 @@ module _ {V : Type 0} where
   value_behind_gap n next list x h = by_lt_z n next
       (λ k. rw (lt_yes n next k) (value_in_rest ((n, next -ℤ pos 1), None) list x (behind (n, next -ℤ pos 1) x (omega (arith, ints)))))
       (λ k. rw (lt_no n next k) refl)
-
-  pub gap_pushed : {T : Type 0} (numbers : Numbering T) (filled new : List ((T × T) × Option V)) (start last : T) (next : ℤ)
-      → new ≡ filled ++ ((start, last), None) ∷ [] → numbers.number start ≤ℤ numbers.number last → numbers.number last +ℤ pos 1 ≡ next
-      → pairs_in_numbers numbers new ≡ pairs_in_numbers numbers filled ++ gap_before (numbers.number start) next
-  gap_pushed numbers filled new start last next is ordered above =
-      ap (pairs_in_numbers numbers) is ∙ (in_numbers-push numbers filled ((start, last), None)
-      ∙ ap (λ gap. pairs_in_numbers numbers filled ++ gap) (sym (one_gap (numbers.number start) (numbers.number last) next ordered above)))
 
 -- ---- a canonical list with its gaps
 

@@ -1,5 +1,5 @@
 -- A canonical list, read from its first range on, and whether each number has a value.
-use Rattle.std.proofs.Common.{◌≡◌, List, [], ◌∷◌, refl, arith, ◌∙◌}
+use Rattle.std.proofs.Common.{◌≡◌, List, ◌∷◌, refl, arith, ◌∙◌}
 use Rattle.std.specs.Prelude.{ℤ, pos, ◌+ℤ◌, ◌≤ℤ◌, ◌<ℤ◌, Bool, Some, None}
 use Rattle.std.specs.Option.{IsSome}
 use Rattle.std.proofs.lemmas.Int.{ints, by_lt_z}
@@ -32,9 +32,6 @@ module _ {V : Type 0} (same : V → V → Bool) (lo hi : ℤ) (all : List ((ℤ 
   value_in_range left rest p n is l x low high =
       let c = rw is at l.canonical in
       l.later x (omega (arith, ints)) ∙ rw is (value_in_first p rest x (inside p.0 x low high))
-
-  pub no_value_at_end : (left : List ((ℤ × ℤ) × V)) (n : ℤ) → left ≡ [] → IsLeftFrom left n → (x : ℤ) → n ≤ℤ x → value_at all x ≡ None
-  no_value_at_end left n is l x low = l.later x low ∙ rw is
 
   -- each number below n has a value
   abbrev pub HaveValuesTo : ℤ → Type 0

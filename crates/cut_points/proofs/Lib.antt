@@ -5,5 +5,6 @@ pub mod ValueLemmas
 pub mod PlaceLemmas
 pub mod LeftLemmas
 pub mod EitherLemmas
+pub mod MadeLemmas
 pub mod ManyLemmas
 pub mod BoundLemmas

@@ -1,5 +1,5 @@
 -- The cuts of a list of ranges: the numbers at which membership changes.
-use Rattle.std.specs.Prelude.{◌%◌, ◌==◌, ℤ, pos, ◌+ℤ◌, ◌-ℤ◌, ◌≤ℤ◌, Bool, int_le, int_lt, if◌then◌else◌, List, [], ◌∷◌, drop, flat_map, Option, Some, None}
+use Rattle.std.specs.Prelude.{◌%◌, ◌==◌, ℤ, pos, ◌+ℤ◌, ◌-ℤ◌, ◌≤ℤ◌, Bool, int_le, int_lt, if◌then◌else◌, List, [], ◌∷◌, drop, flat_map}
 use Rattle.std.specs.List.{count_by}
 
 -- the numbers lie from lo to hi, and each is less than the next
@@ -30,8 +30,3 @@ from_cuts greatest (c ∷ d ∷ rest) = (c, d -ℤ pos 1) ∷ from_cuts greatest
 -- whether the count of cuts at most x is odd
 abbrev pub parity : List ℤ → ℤ → Bool
 parity list x = count_by (λ c. int_le c x) list % 2 == 1
-
--- the start of a range whose end is still to come, before the cuts that follow
-abbrev pub with_begun : Option ℤ → List ℤ → List ℤ
-with_begun None rest = rest
-with_begun (Some start) rest = start ∷ rest

@@ -1,11 +1,12 @@
 //! From a set to its cuts and back, and membership by cuts.
-ghost use Rattle.std.specs.Prelude.{◌≡◌, ℤ, ◌<ℤ◌, int_le, IfOk, OnOk, IfSome, List, [], ◌∷◌, ◌++◌, option_map, is_none, cond, Some, None};
+ghost use Rattle.std.specs.Prelude.{◌≡◌, ◌<ℤ◌, int_le, IfOk, OnOk, IfSome};
+ghost use Rattle.std.specs.Prelude.{[], ◌∷◌, ◌++◌, option_map};
 ghost use Rattle.std.specs.List.{AllByRecursion};
+ghost use Rattle.std.specs.Option.{option_to_list};
 ghost use Rattle.number_line.specs.Ranges.{IsCanonical};
-ghost use Rattle.range_map.specs.Range.{in_numbers};
-ghost use Rattle.range_map.specs.Set.{all_in_numbers};
+ghost use Rattle.range_map.specs.Range.{IsRange, in_numbers};
 ghost use Rattle.range_map.specs.Sweep.{numbers_of};
-ghost use Rattle.cut_points.specs.Cuts.{IsAscending, cuts as list_cuts, from_cuts, parity, with_begun};
+ghost use Rattle.cut_points.specs.Cuts.{IsAscending, cuts as list_cuts, from_cuts, parity};
 
 use element_core::{Element, NoMemory, is_below};
 use range_map::{Range, RangeSet};
@@ -71,44 +72,22 @@ pub(crate) fn are_values<T: Element>(list: &[T])
     }
 }
 
-// Takes the next cut, which begins a range or ends the one that is begun. Answers the start of a
-// begun range.
-fn take_cut<T: Element>(
-    ranges: &mut Vec<Range<T>>,
-    begun: Option<T>,
-    cut: T,
-) -> Result<Option<T>, NoMemory>
-    requires { IfSome begun (λ start. T.numbers.number start <ℤ T.numbers.number cut) }
-    ensures ranges { IfOk result (λ now. (rest : List ℤ)
-        → all_in_numbers T.numbers ranges.new.items ++ from_cuts T.numbers.greatest
-        (with_begun (option_map T.numbers.number now) rest)
-        ≡ all_in_numbers T.numbers ranges.old.items ++ from_cuts T.numbers.greatest
-        (with_begun (option_map T.numbers.number begun) (T.numbers.number cut ∷ rest))) }
-    ensures begun { IfOk result (λ now. now ≡ cond (is_none begun) (Some cut) None) }
+// Returns the range from `start` to below `after`, or to the greatest value where there is none.
+pub(crate) fn range_before<T: Element>(start: T, after: Option<T>) -> Range<T>
+    requires { IfSome after (λ cut. T.numbers.number start <ℤ T.numbers.number cut) }
+    ensures ends { in_numbers T.numbers result ∷ [] ≡ from_cuts T.numbers.greatest
+        (T.numbers.number start ∷ option_to_list (option_map T.numbers.number after)) }
+    ensures range { IsRange T.numbers result }
 {
-    let Some(start) = begun else {
-        return Ok(Some(cut));
-    };
     start.in_type();
-    if let Some(end) = cut.predecessor() {
-        ranges.push(Range::new(start, end))?;
-        return Ok(None);
+    let Some(cut) = after else {
+        return Range::new(start, T::max_value());
+    };
+    match cut.predecessor() {
+        Some(end) => Range::new(start, end),
+        // A cut above `start` isn't the least value, so this arm is never run.
+        None => Range::single(start),
     }
-    Ok(None)
-}
-
-// Ends a begun range at the greatest value.
-fn end_at_greatest<T: Element>(ranges: &mut Vec<Range<T>>, begun: Option<T>) -> Result<(), NoMemory>
-    ensures { OnOk result (all_in_numbers T.numbers ranges.new.items
-        ≡ all_in_numbers T.numbers ranges.old.items ++ from_cuts T.numbers.greatest
-        (with_begun (option_map T.numbers.number begun) [])) }
-{
-    let Some(start) = begun else {
-        return Ok(());
-    };
-    start.in_type();
-    ranges.push(Range::new(start, T::max_value()))?;
-    Ok(())
 }
 
 /// Returns the one set whose cuts are these values, which ascend, as `from_cuts` makes it of a
@@ -118,14 +97,14 @@ pub fn from_cut_slice<T: Element>(alloc: Global, list: &[T]) -> Result<RangeSet<
     ensures { IfOk result (λ set.
         set ≡ from_cuts T.numbers.greatest (numbers_of T.numbers list.now)) }
 {
-    let mut ranges = Vec::with_capacity(alloc, (list.len() / 2).saturating_add(1))?;
-    let mut begun = None;
-    for cut in list {
-        begun = take_cut(&mut ranges, begun, *cut)?;
+    // Each range of the result but the last takes two cuts.
+    let mut ranges = Vec::with_capacity(alloc, list.len().div_ceil(2))?;
+    let mut rest = list.iter();
+    while let Some(start) = rest.next() {
+        let after = rest.next().copied();
+        ranges.push(range_before(*start, after))?;
     }
-    end_at_greatest(&mut ranges, begun)?;
-    let set = RangeSet::try_from_iter(alloc, ranges)?;
-    Ok(set)
+    Ok(RangeSet::from_canonical(ranges))
 }
 
 /// Returns the one set whose cuts are these values: each cut begins a range or ends one, in turn,

@@ -1,32 +1,13 @@
 //! The members of just one of two sets, by cuts, and those of the left one alone.
-ghost use Rattle.std.specs.Prelude.{◌≡◌, ◌<ℤ◌, ◌&&◌, not, [], ◌∷◌, option_map, IfOk, IfSome};
-ghost use Rattle.std.specs.Option.{option_to_list};
+ghost use Rattle.std.specs.Prelude.{◌≡◌, ◌&&◌, not, IfOk};
 ghost use Rattle.number_line.specs.Ranges.{holds, IsCanonical, xor};
-ghost use Rattle.range_map.specs.Range.{IsRange, in_numbers, EachNumber};
-ghost use Rattle.cut_points.specs.Cuts.{from_cuts};
+ghost use Rattle.range_map.specs.Range.{EachNumber};
 
+use crate::convert::range_before;
 use crate::cuts_left::{CutsLeft, take_lesser};
 use element_core::{Element, NoMemory};
-use range_map::{Range, RangeSet};
+use range_map::RangeSet;
 use std::alloc::Global;
-
-// Returns the range from `start` to below `after`, or to the greatest value where there is none.
-fn range_before<T: Element>(start: T, after: Option<T>) -> Range<T>
-    requires { IfSome after (λ cut. T.numbers.number start <ℤ T.numbers.number cut) }
-    ensures ends { in_numbers T.numbers result ∷ [] ≡ from_cuts T.numbers.greatest
-        (T.numbers.number start ∷ option_to_list (option_map T.numbers.number after)) }
-    ensures range { IsRange T.numbers result }
-{
-    start.in_type();
-    let Some(cut) = after else {
-        return Range::new(start, T::max_value());
-    };
-    match cut.predecessor() {
-        Some(end) => Range::new(start, end),
-        // A cut above `start` isn't the least value, so this arm is never run.
-        None => Range::single(start),
-    }
-}
 
 /// Returns the set of the values that are members of just one of the two sets. Its cuts are those
 /// that just one of them has. O(n + m) time for n and m ranges, and memory for the result alone.

@@ -134,15 +134,6 @@ module _ {T V : Type 0} (numbers : Numbering T) (same : V → V → Bool) where
     pub canonical : IsCanonicalMap same (numbers.number last.0.0) numbers.greatest (pairs_in_numbers numbers (last ∷ rest))
         → IsCanonicalMap same numbers.least numbers.greatest (pairs_in_numbers numbers all)
 
-  pub map_begins : (all : List ((T × T) × V)) (first : (T × T) × V) (rest : List ((T × T) × V)) → all ≡ first ∷ rest → IsRange numbers first.0
-      → numbers.least ≤ℤ numbers.number first.0.0 → IsMapTo all first rest
-  map_begins all first rest is range low = record {
-    last_is_range = range;
-    low = low;
-    ranges = λ h. rw is h;
-    canonical = λ h. rw is (low, h.1, h.2, h.3, h.4);
-  }
-
   pub map_goes_on : (all : List ((T × T) × V)) (last : (T × T) × V) (left : List ((T × T) × V)) (next : (T × T) × V) (rest : List ((T × T) × V)) → left ≡ next ∷ rest
       → IsRange numbers next.0 → numbers.number last.0.1 ≤ℤ numbers.greatest → numbers.number last.0.1 <ℤ numbers.number next.0.0
       → (numbers.number next.0.0 ≡ numbers.number last.0.1 +ℤ pos 1 → same last.1 next.1 ≡ false) → IsMapTo all last left → IsMapTo all next rest
@@ -151,11 +142,4 @@ module _ {T V : Type 0} (numbers : Numbering T) (same : V → V → Bool) where
     low = let low = m.low in let ordered = m.last_is_range.ordered in omega (arith, ints);
     ranges = λ h. m.ranges (m.last_is_range, rw is h);
     canonical = λ h. m.canonical (omega (arith, ints), m.last_is_range.ordered, high, rw is differs, rw is (omega (arith, ints), h.1, h.2, h.3, h.4));
-  }
-
-  pub map_ends : (all : List ((T × T) × V)) (last : (T × T) × V) (left : List ((T × T) × V)) → left ≡ [] → numbers.number last.0.1 ≤ℤ numbers.greatest → IsMapTo all last left
-      → IsMap numbers same all
-  map_ends all last left is high m = record {
-    are_ranges = m.ranges (m.last_is_range, rw is tt);
-    canonical = m.canonical (omega (arith, ints), m.last_is_range.ordered, high, rw is tt, rw is tt);
   }

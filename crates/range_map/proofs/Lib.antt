@@ -14,6 +14,7 @@ pub mod OddLemmas
 pub mod ElementLemmas
 pub mod ChangeLemmas
 pub mod KeyLemmas
+pub mod EndLemmas
 pub mod PartLemmas
 pub mod LeftOutLemmas
 pub mod TakenLemmas

@@ -1,95 +1,16 @@
 -- The parts of a pair in the ranges of a set: those from the first that doesn't end before it, up to the first that begins behind it.
-use Rattle.std.proofs.Common.{◌≡◌, ℕ, zero, suc, ◌<◌, ◌≤◌, Bool, true, false, List, [], ◌∷◌, ◌++◌, length, take, drop, ◌-◌, length-drop, refl, ap, sym, ◌∙◌, arith, append_assoc, append-nil}
-use Rattle.std.specs.Prelude.{ℤ, pos, ◌+ℤ◌, ◌≤ℤ◌, ◌<ℤ◌, ◌&&◌, int_lt, slice_index_or}
+use Rattle.std.proofs.Common.{◌≡◌, true, false, List, [], ◌∷◌, ◌++◌, refl, ap, sym, ◌∙◌, arith, append_assoc, append-nil}
+use Rattle.std.specs.Prelude.{ℤ, pos, ◌+ℤ◌, ◌≤ℤ◌, ◌<ℤ◌, ◌&&◌}
 use Rattle.std.specs.Int.{int_min, int_max}
-use Rattle.std.specs.List.Sorted.{IsPartitionedBy}
 use Rattle.std.proofs.lemmas.Int.{ints}
-use Rattle.element_core.specs.Numbering.{Numbering}
 use Rattle.number_line.specs.Ranges.{lies_in, IsCanonical}
 use Rattle.number_line.specs.Kept.{overlaps}
 use Rattle.number_line.specs.Parts.{common, parts, all_with, parts_of_pairs, IsPairClone}
 use Rattle.number_line.proofs.CloneLemmas.{zipped_append}
-use Rattle.number_line.proofs.PartLemmas.{parts_past, part_before, part_first}
+use Rattle.number_line.proofs.PartLemmas.{parts_past, part_first}
 use Rattle.number_line.proofs.ZippedLemmas.{IsZipped, zipped_start, zipped_step, zipped_end}
-use Rattle.range_map.specs.Range.{in_numbers}
-use Rattle.range_map.specs.Set.{all_in_numbers}
 use Rattle.range_map.specs.Changing.{IsPartsPushed}
 use Rattle.range_map.specs.Merging.{EndFrom}
-
--- ---- from the first range that doesn't end before a number
-
-from_lower : (lo low hi : ℤ) (ranges : List (ℤ × ℤ)) → low ≤ℤ lo → IsCanonical lo hi ranges → IsCanonical low hi ranges
-from_lower lo low hi [] h c = tt
-from_lower lo low hi (r ∷ rest) h c = (omega (arith, ints, h, c.0), c.1, c.2, c.3)
-
-module _ {T : Type 0} (numbers : Numbering T) (n : ℤ) where
-  -- the range ends before n
-  abbrev pub ends_before : T × T → Bool
-  ends_before r = int_lt (numbers.number r.1) n
-
-  pub drop_canonical : (lo hi : ℤ) (ranges : List (T × T)) (k : ℕ) → IsCanonical lo hi (all_in_numbers numbers ranges) → IsCanonical lo hi (all_in_numbers numbers (drop k ranges))
-  drop_canonical lo hi [] zero c = c
-  drop_canonical lo hi [] (suc k) c = c
-  drop_canonical lo hi (r ∷ rest) zero c = c
-  drop_canonical lo hi (r ∷ rest) (suc k) c =
-      from_lower (numbers.number r.1 +ℤ pos 2) lo hi (all_in_numbers numbers (drop k rest)) (omega (arith, ints, c.0, c.1))
-      (drop_canonical (numbers.number r.1 +ℤ pos 2) hi rest k c.3)
-
-  -- of ascending ranges those that end before n come first
-  later_ends : (lo hi : ℤ) (ranges : List (T × T)) (j : ℕ) (d : T × T) → IsCanonical lo hi (all_in_numbers numbers ranges) → j < length ranges
-      → lo ≤ℤ numbers.number (slice_index_or ranges j d).1
-  later_ends lo hi [] j d c lt = absurd (omega arith)
-  later_ends lo hi (r ∷ rest) zero d c lt = omega (arith, ints, c.0, c.1)
-  later_ends lo hi (r ∷ rest) (suc j) d c lt =
-      let later = later_ends (numbers.number r.1 +ℤ pos 2) hi rest j d c.3 (omega arith) in
-      omega (arith, ints, c.0, c.1, later)
-
-  before_later : (a b m : ℤ) → a ≤ℤ b → int_lt b m ≡ true → int_lt a m ≡ true
-  before_later a b m h e = grind (arith, ints)
-
-  pub parted : (lo hi : ℤ) (ranges : List (T × T)) → IsCanonical lo hi (all_in_numbers numbers ranges) → IsPartitionedBy ends_before ranges
-  parted lo hi [] c i j d h lt e = absurd (omega arith)
-  parted lo hi (r ∷ rest) c zero zero d h lt e = e
-  parted lo hi (r ∷ rest) c zero (suc j) d h lt e =
-      let later = later_ends (numbers.number r.1 +ℤ pos 2) hi rest j d c.3 (omega arith) in
-      before_later (numbers.number r.1) (numbers.number (slice_index_or rest j d).1) n (omega (arith, ints, later)) e
-  parted lo hi (r ∷ rest) c (suc i) zero d h lt e = absurd (omega arith)
-  parted lo hi (r ∷ rest) c (suc i) (suc j) d h lt e = parted (numbers.number r.1 +ℤ pos 2) hi rest c.3 i j d (omega arith) (omega arith) e
-
-  -- none of the ranges from place k on ends before n
-  pub later_end_from : (ranges : List (T × T)) (k : ℕ) → ((j : ℕ) (d : T × T) → k ≤ j → j < length ranges → ends_before (slice_index_or ranges j d) ≡ false)
-      → EndFrom n (all_in_numbers numbers (drop k ranges))
-  later_end_from [] zero h = tt
-  later_end_from [] (suc k) h = tt
-  later_end_from (r ∷ rest) zero h =
-      (not_before (numbers.number r.1) (h 0 r (omega arith) (omega arith)), later_end_from rest zero (λ j d low lt. h (suc j) d (omega arith) (omega arith)))
-    where
-      not_before : (a : ℤ) → int_lt a n ≡ false → n ≤ℤ a
-      not_before a e = grind (arith, ints)
-  later_end_from (r ∷ rest) (suc k) h = later_end_from rest k (λ j d low lt. h (suc j) d (omega arith) (omega arith))
-
-  -- those before place k have no part in a range from n on
-  pub same_parts : (end : ℤ) (ranges : List (T × T)) (k : ℕ) → ((j : ℕ) (d : T × T) → 0 ≤ j → j < k → ends_before (slice_index_or ranges j d) ≡ true)
-      → parts (n, end) (all_in_numbers numbers (drop k ranges)) ≡ parts (n, end) (all_in_numbers numbers ranges)
-  same_parts end [] zero h = refl
-  same_parts end [] (suc k) h = refl
-  same_parts end (r ∷ rest) zero h = refl
-  same_parts end (r ∷ rest) (suc k) h =
-      same_parts end rest k (λ j d low lt. h (suc j) d (omega arith) (omega arith))
-      ∙ sym (part_before (n, end) (in_numbers numbers r) (all_in_numbers numbers rest) (is_before (numbers.number r.1) (h 0 r (omega arith) (omega arith))))
-    where
-      is_before : (a : ℤ) → int_lt a n ≡ true → a <ℤ n
-      is_before a e = grind (arith, ints)
-
-take_all : {A : Type 0} (n : ℕ) (xs : List A) → length xs ≡ n → take n xs ≡ xs
-take_all zero [] h = refl
-take_all (suc n) [] h = absurd (omega arith)
-take_all zero (x ∷ xs) h = absurd (omega arith)
-take_all (suc n) (x ∷ xs) h = ap (λ l. x ∷ l) (take_all n xs (omega arith))
-
--- a slice from a place on
-pub slice_from : {A : Type 0} (k : ℕ) (xs : List A) → take (length xs - k) (drop k xs) ≡ drop k xs
-slice_from k xs = take_all (length xs - k) (drop k xs) (length-drop k xs)
 
 -- ---- one range after another
 

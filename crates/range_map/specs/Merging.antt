@@ -1,5 +1,5 @@
 -- One step each of the walks over canonical lists of ranges of numbers.
-use Rattle.std.specs.Prelude.{◌≡◌, ℤ, pos, ◌+ℤ◌, ◌≤ℤ◌, false, ◌&&◌, ◌||◌, List, [], ◌∷◌, ◌++◌, ◌⊎◌}
+use Rattle.std.specs.Prelude.{◌≡◌, ℤ, pos, ◌+ℤ◌, ◌≤ℤ◌, false, ◌&&◌, ◌||◌, int_le, List, [], ◌∷◌, ◌++◌, filter, ◌⊎◌}
 use Rattle.std.specs.Int.{int_min, int_max}
 use Rattle.number_line.specs.Ranges.{lies_in, holds, IsCanonical}
 
@@ -17,6 +17,10 @@ EndApart n (r ∷ rest) = ((r.1 +ℤ pos 2) ≤ℤ n) × EndApart n rest
 abbrev pub EndFrom : ℤ → List (ℤ × ℤ) → Type 0
 EndFrom n [] = Unit {0}
 EndFrom n (r ∷ rest) = (n ≤ℤ r.1) × EndFrom n rest
+
+-- the ranges that end at n or behind it
+abbrev pub ending_from : ℤ → List (ℤ × ℤ) → List (ℤ × ℤ)
+ending_from n ranges = filter (λ r. int_le n r.1) ranges
 
 -- r is a first range of `left` or `right`, and `left_after` and `right_after` are left of them without it: no range begins before r
 pub record IsTaken (hi : ℤ) (left right : List (ℤ × ℤ)) (r : ℤ × ℤ) (left_after right_after : List (ℤ × ℤ)) : Type 0 where

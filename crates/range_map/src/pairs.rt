@@ -12,7 +12,7 @@ ghost use Rattle.range_map.specs.Set.{all_in_numbers};
 ghost use Rattle.range_map.specs.Valued.{pairs_in_numbers, AreValuedRanges};
 
 use crate::range::Range;
-use crate::set::RangeSet;
+use crate::set::{RangeSet, ranges_from};
 use element_core::{Element, NoMemory};
 use std::alloc::Global;
 
@@ -113,7 +113,8 @@ fn push_parts<T: Element, V: Clone + Drop>(
 }
 
 /// Returns the parts of each pair in the ranges of the set, in their order, each with a clone of
-/// the pair's value. O(n log m) time for n pairs and m ranges of the set, beside the clones, one
+/// the pair's value. O(n log m) time for n pairs and m ranges of the set, and O(n + m) where the
+/// pairs ascend and few of the set's ranges lie between one and the next; beside the clones, one
 /// for each pair of the answer.
 pub fn parts_in_set<T: Element, V: Clone + Drop>(
     alloc: Global,
@@ -126,8 +127,14 @@ pub fn parts_in_set<T: Element, V: Clone + Drop>(
         (pairs_in_numbers T.numbers made.items)) }
 {
     let mut made = Vec::with_capacity(alloc, pairs.len())?;
+    let all = set.as_slice();
+    let mut rest = all;
+    let mut last = T::min_value();
     for pair in pairs {
-        push_parts(&mut made, pair, set.ranges_from(pair.0.start()))?;
+        let start = pair.0.start();
+        rest = ranges_from(all, rest, last, start);
+        last = start;
+        push_parts(&mut made, pair, rest)?;
     }
     Ok(made)
 }

@@ -1,9 +1,7 @@
 //! Sets of values, each kept as its ranges.
 ghost use Rattle.std.specs.Prelude.{◌≡◌, ℤ, ◌&&◌, ◌||◌, not};
 ghost use Rattle.std.specs.Prelude.{[], ◌∷◌, length, IfOk, IsTrue, ◌↔◌};
-ghost use Rattle.number_line.specs.Parts.{parts};
 ghost use Rattle.number_line.specs.Ranges.{holds, IsCanonical};
-ghost use Rattle.range_map.specs.Merging.{EndFrom};
 ghost use Rattle.range_map.specs.Range.{in_numbers, EachNumber};
 ghost use Rattle.range_map.specs.Set.{all_in_numbers, IsSet};
 
@@ -13,6 +11,7 @@ mod except;
 mod from_iter;
 mod iter;
 mod merging;
+mod places;
 
 use crate::range::Range;
 pub(crate) use counting::size_of;
@@ -21,6 +20,7 @@ pub use elements::EltIter;
 pub(crate) use elements::without_first;
 pub use iter::RangeIter;
 use merging::take_first;
+pub(crate) use places::ranges_from;
 use std::alloc::Global;
 use std::hash::{Hash, Hasher};
 use std::marker::Model;
@@ -137,20 +137,6 @@ impl<T: Element> RangeSet<T> {
         self.ranges
             .binary_search_by(|range| range.cmp_element(value))
             .is_ok()
-    }
-
-    // Returns the ranges that end at `start` or behind it. O(log n) time for n ranges, no memory.
-    pub(crate) fn ranges_from(&self, start: T) -> &[Range<T>]
-        ensures canonical { IsCanonical T.numbers.least T.numbers.greatest
-            (all_in_numbers T.numbers result.now) }
-        ensures end_from { EndFrom (T.numbers.number start) (all_in_numbers T.numbers result.now) }
-        ensures parts { (end : ℤ) → parts (T.numbers.number start, end)
-            (all_in_numbers T.numbers result.now) ≡ parts (T.numbers.number start, end) self.now }
-    {
-        let place = self
-            .ranges
-            .partition_point(|range| is_below(range.end(), start));
-        &self.ranges[place..]
     }
 
     /// Returns the set of the values that are members of either set. O(n + m) time for n and m

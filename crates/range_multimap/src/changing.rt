@@ -38,7 +38,8 @@ impl<T: Element, V: Eq> RangeMultiMap<T, V> {
 
     /// Returns the parts of each pair in the set, pair by pair in their order and each pair's parts
     /// ascending, with clones of the pair's value. O(n log m) time for n pairs and m ranges of the
-    /// set, beside the clones, one for each pair of the answer.
+    /// set, and O(n + m) where the pairs ascend and few of the set's ranges lie between one and the
+    /// next; beside the clones, one for each pair of the answer.
     pub fn intersection(&self, alloc: Global, set: &RangeSet<T>) -> Result<Self, NoMemory>
     where
         V: Clone + Drop,

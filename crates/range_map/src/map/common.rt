@@ -13,7 +13,8 @@ use std::alloc::Global;
 impl<T: Element, V: Eq> RangeMap<T, V> {
     /// Returns the map of the keys that are members of `set`, with clones of their values: the
     /// parts of each range in the set, ascending. O(n log m) time for n ranges and m ranges of the
-    /// set, beside the clones, one for each range of the answer.
+    /// set, and O(n + m) where few of the set's lie between one range and the next; beside the
+    /// clones, one for each range of the answer.
     pub fn intersection(&self, alloc: Global, set: &RangeSet<T>) -> Result<Self, NoMemory>
     where
         V: Clone + Drop,

@@ -8,7 +8,7 @@ use Rattle.range_map.proofs.CanonicalLemmas.{ranges-push}
 use Rattle.cut_points.specs.Cuts.{cuts, from_cuts}
 use Rattle.cut_points.proofs.CutLemmas.{cuts_ascend, from_cuts_canonical}
 use Rattle.cut_points.proofs.SymmetricLemmas.{symmetric_ascends, symmetric_holds}
-use Rattle.cut_points.proofs.EitherLemmas.{still_ascends, one_more, numbers_push, all_made}
+use Rattle.cut_points.proofs.MadeLemmas.{still_ascends, one_more, numbers_push, all_made}
 use Rattle.cut_points.proofs.operations.symmetric_difference.Goals as goal
 
 pub loop-start-init : goal.loop-start-init
