@@ -1,7 +1,7 @@
 //! Callers as a user would write them, each proved to learn what it needs.
 #![tactic(auto, using(sorted_iter::specs::Sources::sources, crate::proofs::Literals::literals))]
 
-ghost use Rattle.std.specs.Prelude.{◌≡◌, IfOk, IfSome, Some, Option};
+ghost use Rattle.std.specs.Prelude.{◌≡◌, [], ◌∷◌, IfOk, IfSome, Some, Option, is_some};
 ghost use Rattle.std.specs.Iterator.{IsFinite};
 ghost use Rattle.ordered_lists.specs.Lists.{union};
 ghost use Rattle.sorted_iter.specs.Orders.{RunsAre};
@@ -53,7 +53,9 @@ pub fn shared_keys<K: Ord + Copy, V, W>(
 }
 
 /// Returns an array that is written out, and a range.
-pub fn written_out(alloc: Global) -> Result<Vec<u32>, AllocError> {
+pub fn written_out(alloc: Global) -> Result<Vec<u32>, AllocError>
+    ensures { IfOk result (λ all. all.items ≡ 1 ∷ 2 ∷ 3 ∷ 5 ∷ []) }
+{
     let listed = [1u32, 2, 5].iter().copied().assume_sorted_by_item();
     listed.union(2..4).collect(alloc)
 }
@@ -93,6 +95,8 @@ where
     I::Item: Drop,
     requires can { I.can_next it }
     requires short { I.one_or_less it }
+    ensures { (item : Option I.Item) × (rest : I) × I.next_gives it item rest
+        × (result ≡ is_some item) }
 {
     it.next().is_some()
 }

@@ -2,10 +2,11 @@
 //! by what the set says of its items.
 #![tactic(auto, using(sorted_iter::specs::Sources::sources))]
 
-ghost use Rattle.std.specs.Prelude.{◌≡◌, ◌&&◌, not};
+ghost use Rattle.std.specs.Prelude.{◌≡◌, ◌-◌, ◌&&◌, not, IfOk};
+ghost use Rattle.std.specs.List.{range_with_len};
 ghost use Rattle.std.specs.Ordering.{nat_cmp};
 ghost use Rattle.std.specs.Slice.Iter.{iter_steps};
-ghost use Rattle.ordered_lists.specs.Lists.{has};
+ghost use Rattle.ordered_lists.specs.Lists.{has, intersection};
 ghost use Rattle.sorted_iter.specs.Orders.{InOrder};
 ghost use Rattle.sorted_iter.specs.Streams.{assumed_source};
 
@@ -35,7 +36,10 @@ pub fn those_between(
     set: &SortedVectorSet<u32>,
     low: u32,
     high: u32,
-) -> Result<Vec<u32>, AllocError> {
+) -> Result<Vec<u32>, AllocError>
+    ensures { IfOk result (λ all. all.items
+        ≡ intersection nat_cmp set.now.items (range_with_len low (high - low))) }
+{
     let items = set.iter().copied().assume_sorted_by_item();
     items.intersection(low..high).collect(alloc)
 }
