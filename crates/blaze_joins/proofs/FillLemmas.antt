@@ -1,6 +1,6 @@
 -- A canonical list with its gaps, and clones of it.
 use Rattle.std.proofs.Common.{◌≡◌, List, [], ◌∷◌, ◌++◌, refl, arith, ap, sym, ◌∙◌}
-use Rattle.std.specs.Prelude.{ℤ, pos, ◌+ℤ◌, ◌-ℤ◌, ◌≤ℤ◌, ◌<ℤ◌, int_lt, Bool, true, false, Option, Some, None}
+use Rattle.std.specs.Prelude.{ℤ, pos, ◌+ℤ◌, ◌-ℤ◌, ◌≤ℤ◌, ◌<ℤ◌, Bool, true, false, Option, Some, None}
 use Rattle.std.specs.Option.{option_eq}
 use Rattle.std.specs.Cmp.{IsEquivalence}
 use Rattle.std.specs.Cmp.Lexicographic.{options_equiv}
@@ -9,16 +9,11 @@ use Rattle.number_line.specs.Merged.{FirstStays}
 use Rattle.number_line.specs.Parts.{IsPairClone, ArePairClones}
 use Rattle.number_line.specs.Valued.{value_at, StopsBefore, IsCanonicalMap, HasValues}
 use Rattle.number_line.proofs.CloneLemmas.{zipped_append, clones_same, clones_values}
+use Rattle.number_line.proofs.OrderLemmas.{lt_yes, lt_no}
 use Rattle.number_line.proofs.SameLemmas.{canonical_same}
 use Rattle.number_line.proofs.ValuedLemmas.{inside, behind, value_in_first, value_in_rest, none_before_first}
 use Rattle.number_line.proofs.ZippedLemmas.{IsZipped, zipped_step, zipped_end}
 use Rattle.blaze_joins.specs.Filled.{IsOptionClone, gap_before, with_gaps}
-
-lt_yes : (x y : ℤ) → x <ℤ y → int_lt x y ≡ true
-lt_yes x y h = grind (arith, ints)
-
-lt_no : (x y : ℤ) → y ≤ℤ x → int_lt x y ≡ false
-lt_no x y h = grind (arith, ints)
 
 -- ---- one gap
 

@@ -8,7 +8,8 @@ use Rattle.std.proofs.lemmas.List.Sums.{sum_by-cons, count_by-le-length}
 use Rattle.number_line.specs.Ranges.{IsCanonical}
 use Rattle.ordered_lists.specs.Lists.{has}
 use Rattle.cut_points.specs.Cuts.{IsAscending, cuts, cuts_alone}
-use Rattle.cut_points.proofs.CutLemmas.{has_cons, eq_same, eq_less, eq_more, le_yes, le_no, lt_yes, lt_no, nothing_left}
+use Rattle.number_line.proofs.OrderLemmas.{le_yes, le_no, lt_yes, lt_no}
+use Rattle.cut_points.proofs.CutLemmas.{has_cons, eq_same, eq_less, eq_more, nothing_left}
 
 -- how many of a list are b or more
 from_on : ℤ → List ℤ → ℕ

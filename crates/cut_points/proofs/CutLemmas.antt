@@ -7,6 +7,7 @@ use Rattle.std.proofs.lemmas.Int.{ints, by_lt_z}
 use Rattle.std.proofs.lemmas.List.Sums.{sum_by-cons}
 use Rattle.number_line.specs.Ranges.{holds, IsCanonical, xor}
 use Rattle.ordered_lists.specs.Lists.{has, find}
+use Rattle.number_line.proofs.OrderLemmas.{le_yes, le_no, lt_yes, lt_no}
 use Rattle.number_line.proofs.RangeLemmas.{first_holds, rest_holds, below_start}
 use Rattle.range_map.proofs.BoundLemmas.{xor_false}
 use Rattle.cut_points.specs.Cuts.{IsAscending, cuts, from_cuts, parity}
@@ -16,18 +17,6 @@ abbrev pub changes : ℤ → (ℤ → Bool) → ℤ → Bool
 changes lo f x = if int_eq x lo then f x else xor (f x) (f (x -ℤ pos 1))
 
 -- ---- tests
-
-pub le_yes : (x y : ℤ) → x ≤ℤ y → int_le x y ≡ true
-le_yes x y h = grind (arith, ints)
-
-pub le_no : (x y : ℤ) → y <ℤ x → int_le x y ≡ false
-le_no x y h = grind (arith, ints)
-
-pub lt_yes : (x y : ℤ) → x <ℤ y → int_lt x y ≡ true
-lt_yes x y h = grind (arith, ints)
-
-pub lt_no : (x y : ℤ) → y ≤ℤ x → int_lt x y ≡ false
-lt_no x y h = grind (arith, ints)
 
 pub cmp_less : (x y : ℤ) → x <ℤ y → int_cmp x y ≡ Less
 cmp_less x y h = grind (arith, ints)

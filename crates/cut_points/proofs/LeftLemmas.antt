@@ -5,7 +5,8 @@ use Rattle.std.proofs.lemmas.Int.{ints, by_lt_z}
 use Rattle.number_line.specs.Ranges.{IsCanonical}
 use Rattle.number_line.proofs.RangeLemmas.{from_lower}
 use Rattle.cut_points.specs.Cuts.{IsAscending, cuts, cuts_left}
-use Rattle.cut_points.proofs.CutLemmas.{lt_yes, lt_no, ascending_from, nothing_left, cuts_ascend}
+use Rattle.number_line.proofs.OrderLemmas.{lt_yes, lt_no}
+use Rattle.cut_points.proofs.CutLemmas.{ascending_from, nothing_left, cuts_ascend}
 
 pub left_ascends : (lo hi : ℤ) (begun : Bool) (rs : List (ℤ × ℤ)) → IsCanonical lo hi rs → IsAscending lo hi (cuts_left hi begun rs)
 left_ascends lo hi false rs c = cuts_ascend lo hi rs c

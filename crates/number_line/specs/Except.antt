@@ -1,5 +1,5 @@
 -- Numbers given one after another, and the ranges of all the others.
-use Rattle.std.specs.Prelude.{◌≡◌, ℤ, ◌≤ℤ◌, Bool, true, false, not, ◌&&◌, int_le, Option, Some, None, List, [], ◌∷◌, map}
+use Rattle.std.specs.Prelude.{◌≡◌, ℤ, ◌≤ℤ◌, Bool, true, false, not, ◌&&◌, int_le, Option, Some, None, List, [], ◌∷◌}
 use Rattle.std.specs.List.{list_any}
 use Rattle.std.specs.Ordering.{int_eq}
 use Rattle.number_line.specs.Ranges.{holds, IsCanonical}

@@ -1,22 +1,17 @@
 -- Of canonical ranges those that end at a number or behind it: the others come first, and have no part in what begins there or behind it.
 use Rattle.std.proofs.Common.{◌≡◌, ℕ, zero, suc, ◌<◌, ◌≤◌, Bool, true, false, List, [], ◌∷◌, length, take, drop, ◌-◌, length-drop, refl, ap, sym, ◌∙◌, arith}
-use Rattle.std.specs.Prelude.{ℤ, pos, ◌+ℤ◌, ◌≤ℤ◌, ◌<ℤ◌, int_le, int_lt, slice_index_or}
+use Rattle.std.specs.Prelude.{ℤ, pos, ◌+ℤ◌, ◌≤ℤ◌, ◌<ℤ◌, int_lt, slice_index_or}
 use Rattle.std.specs.List.Sorted.{IsPartitionedBy, IsPartitionPoint}
 use Rattle.std.proofs.lemmas.Int.{ints, by_lt_z}
 use Rattle.element_core.specs.Numbering.{Numbering}
 use Rattle.number_line.specs.Ranges.{IsCanonical}
 use Rattle.number_line.specs.Parts.{parts}
+use Rattle.number_line.proofs.OrderLemmas.{le_yes, le_no}
 use Rattle.number_line.proofs.PartLemmas.{part_before}
 use Rattle.number_line.proofs.RangeLemmas.{from_lower}
 use Rattle.range_map.specs.Merging.{EndFrom, ending_from}
 use Rattle.range_map.specs.Range.{in_numbers}
 use Rattle.range_map.specs.Set.{all_in_numbers}
-
-le_yes : (x y : ℤ) → x ≤ℤ y → int_le x y ≡ true
-le_yes x y h = grind (arith, ints)
-
-le_no : (x y : ℤ) → y <ℤ x → int_le x y ≡ false
-le_no x y h = grind (arith, ints)
 
 module _ (n : ℤ) where
   pub ending_canonical : (lo hi : ℤ) (ranges : List (ℤ × ℤ)) → IsCanonical lo hi ranges → IsCanonical lo hi (ending_from n ranges)

@@ -3,10 +3,10 @@ use Rattle.std.proofs.Common.{◌≡◌, ℕ, zero, suc, ◌<◌, ◌≤◌, Lis
 use Rattle.std.specs.Prelude.{ℤ, pos, ◌+ℤ◌, ◌≤ℤ◌, int_le, int_lt, nat_le, nat_lt, Bool, true, false, if◌then◌else◌, Option, Some, None, fold, map, bytes_eq}
 use Rattle.std.specs.List.Sorted.{IsPartitionedBy, IsPartitionPoint}
 use Rattle.std.proofs.lemmas.Bool.{cases_lt}
-use Rattle.std.proofs.lemmas.Bool.Decides.{nat_tests}
 use Rattle.std.proofs.lemmas.Int.{ints}
 use Rattle.std.proofs.lemmas.List.{map-append, length-map}
 use Rattle.std.proofs.lemmas.List.Sums.{fold-append}
+use Rattle.number_line.proofs.OrderLemmas.{nat_le_yes, nat_le_no, nat_lt_yes, nat_lt_no}
 use Rattle.cut_points.specs.Cuts.{IsAscending}
 use Rattle.set_document.specs.Truth.{latest, after_words}
 use Rattle.truth_blocks.specs.Stack.{last_value}
@@ -52,18 +52,6 @@ latest_nowhere earlier names name e f = found_from earlier name None ∙ rw (e, 
 
 -- ---- places
 
-n_le_yes : (a b : ℕ) → a ≤ b → nat_le a b ≡ true
-n_le_yes a b h = grind (arith, nat_tests)
-
-n_le_no : (a b : ℕ) → b < a → nat_le a b ≡ false
-n_le_no a b h = grind (arith, nat_tests)
-
-n_lt_yes : (a b : ℕ) → a < b → nat_lt a b ≡ true
-n_lt_yes a b h = grind (arith, nat_tests)
-
-n_lt_no : (a b : ℕ) → b ≤ a → nat_lt a b ≡ false
-n_lt_no a b h = grind (arith, nat_tests)
-
 -- a later number is no less
 rises : (lo hi : ℤ) (xs : List ℤ) → IsAscending lo hi xs → (i j : ℕ) (d : ℤ) → i ≤ j → j < length xs → get_or xs i d ≤ℤ get_or xs j d
 rises lo hi [] a i j d le lt = absurd (omega arith)
@@ -89,8 +77,8 @@ parted_at_most lo hi x xs a = parted (λ y. int_le y x) (λ a b k e. grind (arit
 pub tells_from : (x : ℤ) (xs : List ℤ) (r : ℕ) → IsPartitionPoint (λ y. int_lt y x ≡ true) (λ y. int_lt y x ≡ false) xs r
     → (p : ℕ) → p < length xs → nat_le r p ≡ int_le x (get_or xs p (pos 0))
 tells_from x xs r point p k = elim (cases_lt p r) [
-  | inl m ↦ n_le_no r p m ∙ sym (not_below (get_or xs p (pos 0)) (point.0 p (pos 0) (omega arith) m))
-  | inr m ↦ n_le_yes r p m ∙ sym (below (get_or xs p (pos 0)) (point.1 p (pos 0) m k))
+  | inl m ↦ nat_le_no r p m ∙ sym (not_below (get_or xs p (pos 0)) (point.0 p (pos 0) (omega arith) m))
+  | inr m ↦ nat_le_yes r p m ∙ sym (below (get_or xs p (pos 0)) (point.1 p (pos 0) m k))
 ]
   where
     not_below : (y : ℤ) → int_lt y x ≡ true → int_le x y ≡ false
@@ -102,8 +90,8 @@ tells_from x xs r point p k = elim (cases_lt p r) [
 pub tells_after : (x : ℤ) (xs : List ℤ) (r : ℕ) → IsPartitionPoint (λ y. int_le y x ≡ true) (λ y. int_le y x ≡ false) xs r
     → (p : ℕ) → p < length xs → nat_lt p r ≡ int_le (get_or xs p (pos 0)) x
 tells_after x xs r point p k = elim (cases_lt p r) [
-  | inl m ↦ n_lt_yes p r m ∙ sym (point.0 p (pos 0) (omega arith) m)
-  | inr m ↦ n_lt_no p r m ∙ sym (point.1 p (pos 0) m k)
+  | inl m ↦ nat_lt_yes p r m ∙ sym (point.0 p (pos 0) (omega arith) m)
+  | inr m ↦ nat_lt_no p r m ∙ sym (point.1 p (pos 0) m k)
 ]
 
 -- ---- one more line

@@ -6,7 +6,8 @@ use Rattle.std.proofs.lemmas.List.{map-append}
 use Rattle.number_line.specs.Ranges.{lies_in}
 use Rattle.ordered_lists.specs.Lists.{has}
 use Rattle.cut_points.specs.Cuts.{cuts, cuts_alone}
-use Rattle.cut_points.proofs.CutLemmas.{has_cons, eq_same, lt_yes, lt_no, le_yes, le_no}
+use Rattle.number_line.proofs.OrderLemmas.{le_yes, le_no, lt_yes, lt_no}
+use Rattle.cut_points.proofs.CutLemmas.{has_cons, eq_same}
 use Rattle.set_document.specs.Numbers.{greatest}
 use Rattle.text_lines.specs.Lines.{lines, words}
 use Rattle.set_document.specs.Text.{form, kind, Form, Kind, Number, Span, Empty, Full, Name, Not, Or, And, Minus, Xor, Comment, Named, Bad}

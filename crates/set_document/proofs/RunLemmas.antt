@@ -16,7 +16,7 @@ use Rattle.truth_blocks.specs.Blocks.{values_of}
 use Rattle.truth_blocks.specs.declared.step.Step.{Step}
 use Rattle.std.specs.List.{filter}
 use Rattle.std.specs.Prelude.{int_lt, ◌&&◌}
-use Rattle.cut_points.proofs.CutLemmas.{lt_yes, lt_no}
+use Rattle.number_line.proofs.OrderLemmas.{lt_yes, lt_no}
 use Rattle.cut_points.proofs.SymmetricLemmas.{has_filter, filter_ascends}
 use Rattle.set_document.proofs.LiteralLemmas.{changes_at_literals}
 use Rattle.set_document.proofs.LineLemmas.{width, line_value}

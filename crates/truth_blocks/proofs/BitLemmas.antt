@@ -4,8 +4,8 @@ use Rattle.std.specs.Prelude.{true, false, not, ◌&&◌, ◌||◌, ◌==◌, na
 use Rattle.std.specs.Int.{bit_at, bit_not}
 use Rattle.std.proofs.lemmas.Nat.Bits.{bit_at_and, bit_at_or, bit_at_xor, bit_at_not, bit_at-zero, bit_at-lt, bit_at_ones, bit_at_mask_inside, bit_at_mask_below, bit_at_ones_above, ones_shl, ones_shr}
 use Rattle.std.proofs.lemmas.Bool.{cases_lt}
-use Rattle.std.proofs.lemmas.Bool.Decides.{nat_tests}
 use Rattle.number_line.specs.Ranges.{xor}
+use Rattle.number_line.proofs.OrderLemmas.{nat_le_yes, nat_le_no, nat_lt_yes, nat_lt_no}
 use Rattle.truth_blocks.specs.Blocks.{is_one}
 
 and_of : (m n : ℕ) → m < 2 → n < 2 → (min m n == 1) ≡ ((m == 1) && (n == 1))
@@ -69,30 +69,17 @@ pub ruleset bits = (one_and, one_or, one_xor, one_not, one_none, one_all)
 by_lt : {P : Type 0} (a b : ℕ) → (a < b → P) → (b ≤ a → P) → P
 by_lt a b f g = elim (cases_lt a b) [ inl k ↦ f k | inr k ↦ g k ]
 
--- a test that is true, and one that is false
-le_yes : (a b : ℕ) → a ≤ b → nat_le a b ≡ true
-le_yes a b h = grind (arith, nat_tests)
-
-le_no : (a b : ℕ) → b < a → nat_le a b ≡ false
-le_no a b h = grind (arith, nat_tests)
-
-lt_yes : (a b : ℕ) → a < b → nat_lt a b ≡ true
-lt_yes a b h = grind (arith, nat_tests)
-
-lt_no : (a b : ℕ) → b ≤ a → nat_lt a b ≡ false
-lt_no a b h = grind (arith, nat_tests)
-
 one_from : (low i : ℕ) → i < 64 → is_one (2 ^ 64 - 2 ^ low) i ≡ nat_le low i
 unfolding is_one
 one_from low i p = by_lt i low
-    (λ k. rw (bit_at_mask_below low 64 i k) (sym (le_no low i k)))
-    (λ k. rw (bit_at_mask_inside low 64 i k p) (sym (le_yes low i k)))
+    (λ k. rw (bit_at_mask_below low 64 i k) (sym (nat_le_no low i k)))
+    (λ k. rw (bit_at_mask_inside low 64 i k p) (sym (nat_le_yes low i k)))
 
 one_below : (high i : ℕ) → is_one (2 ^ high - 1) i ≡ nat_lt i high
 unfolding is_one
 one_below high i = by_lt i high
-    (λ k. rw (bit_at_ones high i k) (sym (lt_yes i high k)))
-    (λ k. rw (bit_at_ones_above high i k) (sym (lt_no i high k)))
+    (λ k. rw (bit_at_ones high i k) (sym (nat_lt_yes i high k)))
+    (λ k. rw (bit_at_ones_above high i k) (sym (nat_lt_no i high k)))
 
 -- ones from `low` up to `high`
 pub one_between : (low high i : ℕ) → low ≤ 64 → high ≤ 64 → i < 64
@@ -110,15 +97,15 @@ pub literal_place : (from to base low high i : ℕ) → low ≡ from - base → 
 literal_place from to base low high i e f p = rw (start, end) refl
   where
     start : nat_le low i ≡ nat_le from (base + i)
-    start = by_lt (base + i) from (λ k. le_no low i (omega arith) ∙ sym (le_no from (base + i) k)) (λ k. le_yes low i (omega arith) ∙ sym (le_yes from (base + i) k))
+    start = by_lt (base + i) from (λ k. nat_le_no low i (omega arith) ∙ sym (nat_le_no from (base + i) k)) (λ k. nat_le_yes low i (omega arith) ∙ sym (nat_le_yes from (base + i) k))
 
     end : nat_lt i high ≡ nat_lt (base + i) to
-    end = by_lt (base + i) to (λ k. lt_yes i high (omega arith) ∙ sym (lt_yes (base + i) to k)) (λ k. lt_no i high (omega arith) ∙ sym (lt_no (base + i) to k))
+    end = by_lt (base + i) to (λ k. nat_lt_yes i high (omega arith) ∙ sym (nat_lt_yes (base + i) to k)) (λ k. nat_lt_no i high (omega arith) ∙ sym (nat_lt_no (base + i) to k))
 
 pub literal_none : (from to base low high i : ℕ) → low ≡ from - base → high ≡ min (to - base) 64 → i < 64 → high ≤ low
     → false ≡ (nat_le from (base + i) && nat_lt (base + i) to)
 literal_none from to base low high i e f p h = sym (empty (by_lt i low (λ k. inl k) (λ k. inr k))) ∙ literal_place from to base low high i e f p
   where
     empty : (i < low) ⊎ (low ≤ i) → (nat_le low i && nat_lt i high) ≡ false
-    empty (inl k) = rw (le_no low i k) refl
-    empty (inr k) = rw (le_yes low i k, lt_no i high (omega arith)) refl
+    empty (inl k) = rw (nat_le_no low i k) refl
+    empty (inr k) = rw (nat_le_yes low i k, nat_lt_no i high (omega arith)) refl
