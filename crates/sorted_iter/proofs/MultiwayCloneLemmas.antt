@@ -1,10 +1,10 @@
 -- A run of cloned heads, and a run of the heads themselves that is alike.
-use Rattle.std.proofs.Common.{◌≡◌, inl, inr, Bool, true, false, List, [], ◌∷◌, ◌++◌, map, Option, Some, None, All, IsPermutation, refl, sym, ap, ap₂, ◌∙◌, subst, true≢false, T, ◌&&◌}
+use Rattle.std.proofs.Common.{◌≡◌, inl, inr, Bool, true, false, List, [], ◌∷◌, ◌++◌, map, Option, Some, None, All, IsPermutation, refl, sym, ap, ◌∙◌, subst, true≢false, T, ◌&&◌}
 use Rattle.std.specs.Cmp.{IsTotalOrder}
 use Rattle.std.specs.Iterator.{Yields, DrainsIf, Count, IsFinite}
 use Rattle.std.specs.Iterator.Runs.{EachRunFrom, SomeRun}
 use Rattle.std.specs.List.{AllByRecursion, AllZip}
-use Rattle.std.specs.Ordering.{is_lt, ordering_then, nat_cmp}
+use Rattle.std.specs.Ordering.{is_lt}
 use Rattle.std.specs.declared.cmp.Ordering.{Ordering}
 use Rattle.std.specs.declared.cmp.Ordering.TheVariants.{Less, Equal}
 use Rattle.std.proofs.iter.runs.Made.{run, took, seen}
@@ -114,7 +114,7 @@ module _ {S A : Type 0} {cmp : A → A → Ordering} (o : IsTotalOrder cmp) (ste
       lows : (qs : List Pair) (u : A) → map (λ b. b.0) (map (λ p. p.0) qs) ≡ others → cmp u x ≡ Equal → All Alike qs → All (λ h. is_lt (cmp h.item u) ≡ false) (theirs qs)
       lows qs u e f a = items_pair qs (λ y. is_lt (cmp y x) ≡ false) (λ y. is_lt (cmp y u) ≡ false) (λ y v g n. ap is_lt (compared y x v u g f) ∙ n) a (subst (All (λ h. is_lt (cmp h.item x) ≡ false)) (sym e) low)
 
-      rebuilt : Begun steps k.rest k.place one → Rebuilt
+      rebuilt : Begun steps k.rest one → Rebuilt
       rebuilt (inl b) =
           let ws = lifted.0 in
           let c : Bundle S A = (k, [], true) in
@@ -144,7 +144,7 @@ module _ {S A : Type 0} {cmp : A → A → Ordering} (o : IsTotalOrder cmp) (ste
                 ),
           )
       rebuilt (inr b) =
-          let head : InputHead S A = record { item = b.0; rest = b.1; place = k.place } in
+          let head : InputHead S A = record { item = b.0; rest = b.1 } in
           let split = map-cons (λ (c : Bundle S A). c.0) lifted.0 head others (lifted.1 ∙ ap (λ t. t ++ others) b.3) in
           let v = split.0 in
           let vr = split.1 in
@@ -164,7 +164,7 @@ module _ {S A : Type 0} {cmp : A → A → Ordering} (o : IsTotalOrder cmp) (ste
                 let own = All-head Alike d qr all in
                 let next = more_items d.1.1 v.0.item v.1 (subst (λ l. Equals d.1.1 l) (ap (λ (b : Bundle S A). b.1) parts.3) own.items) in
                 let tail = subst (λ l. DrainsIf steps (d.1.2 ≡ true) d.1.0.rest l) next.2 own.tail in
-                let new : InputHead S A = record { item = next.0; rest = tail.1.0; place = d.1.0.place } in
+                let new : InputHead S A = record { item = next.0; rest = tail.1.0 } in
                 let pair : Pair = (v, (new, next.1, d.1.2)) in
                 let alike : Alike pair = record {
                   tail = (tail.0, tail.1.2, tail.2);
@@ -345,4 +345,4 @@ module _ {S A : Type 0} {cmp : A → A → Ordering} (o : IsTotalOrder cmp) (ste
 
       -- clones stand in order as the heads do
       pub clones_heap : (hs ks : List (InputHead S A)) → AllZip (IsHeadClone is_input_clone is_item_clone) hs ks → IsHeap (before cmp) hs → IsHeap (before cmp) ks
-      clones_heap hs ks z heap = heap_alike hs ks z (λ a b c d x y. ap is_lt (ap₂ ordering_then (sym (compared c.item d.item a.item b.item (items a.item c.item x.item) (items b.item d.item y.item))) (ap₂ nat_cmp x.place y.place))) heap
+      clones_heap hs ks z heap = heap_alike hs ks z (λ a b c d x y. ap is_lt (sym (compared c.item d.item a.item b.item (items a.item c.item x.item) (items b.item d.item y.item)))) heap

@@ -29,40 +29,32 @@ any-cases P y xs (zero, x, l, e, p) = inl (subst P (sym e) p)
 any-cases P y xs (suc k, x, l, e, p) = inr (k, x, omega (arith, l), e, p)
 
 -- one more input, of which one head or none is behind the others
-pub started-more : {S A : Type 0} (steps : S → Option A → S → Type 0) (its : List S) (hs : List (InputHead S A)) (it : S) (p : ℕ) (one : List (InputHead S A)) → Started steps its hs → Begun steps it p one
+pub started-more : {S A : Type 0} (steps : S → Option A → S → Type 0) (its : List S) (hs : List (InputHead S A)) (it : S) (one : List (InputHead S A)) → Started steps its hs → Begun steps it one
     → Started steps (its ++ it ∷ []) (hs ++ one)
-started-more {S} {A} steps its hs it p one s b = go its s.0 hs s.1 s.2
+started-more {S} {A} steps its hs it one s b = go its s.0 hs s.1 s.2
   where
-    R : S → List (InputHead S A) → Type 0
-    R it one = (p : ℕ) × Begun steps it p one
-
-    go : (its : List S) (ones : List (List (InputHead S A))) (hs : List (InputHead S A)) → AllZip R its ones → flat_map (λ one. one) ones ≡ hs → Started steps (its ++ it ∷ []) (hs ++ one)
-    go [] [] hs z e = (one ∷ [], ((p, b), tt), append-nil one ∙ ap (λ l. l ++ one) e)
+    go : (its : List S) (ones : List (List (InputHead S A))) (hs : List (InputHead S A)) → AllZip (Begun steps) its ones → flat_map (λ one. one) ones ≡ hs → Started steps (its ++ it ∷ []) (hs ++ one)
+    go [] [] hs z e = (one ∷ [], (b, tt), append-nil one ∙ ap (λ l. l ++ one) e)
     go [] (g ∷ ones) hs z e = absurd z
     go (jt ∷ its) [] hs z e = absurd z
     go (jt ∷ its) (g ∷ ones) hs z e = let r = go its ones (flat_map (λ one. one) ones) z.1 refl in
         (g ∷ r.0, (z.0, r.1), ap (λ l. g ++ l) r.2 ∙ sym (append_assoc g (flat_map (λ one. one) ones) one) ∙ ap (λ l. l ++ one) e)
 
 module _ {S A : Type 0} {cmp : A → A → Ordering} (o : IsTotalOrder cmp) (steps : S → Option A → S → Type 0) where
-  R : S → List (InputHead S A) → Type 0
-  R it one = (p : ℕ) × Begun steps it p one
-
-  begun-ascends : (it : S) (p : ℕ) (one : List (InputHead S A)) → Begun steps it p one → InOrder cmp steps it → All (HeadAscends cmp steps) one
-  begun-ascends it p one (inl b) a = subst (All (HeadAscends cmp steps)) (sym b.2) (All-nil (HeadAscends cmp steps))
-  begun-ascends it p one (inr b) a =
-      let k : InputHead S A = record { item = b.0; rest = b.1; place = p } in
+  begun-ascends : (it : S) (one : List (InputHead S A)) → Begun steps it one → InOrder cmp steps it → All (HeadAscends cmp steps) one
+  begun-ascends it one (inl b) a = subst (All (HeadAscends cmp steps)) (sym b.2) (All-nil (HeadAscends cmp steps))
+  begun-ascends it one (inr b) a =
+      let k : InputHead S A = record { item = b.0; rest = b.1 } in
       let up : HeadAscends cmp steps k = record { ascends = λ xs t y. a.ascends (b.0 ∷ xs) t (b.1, b.2, y) } in
       subst (All (HeadAscends cmp steps)) (sym b.3) (All-cons (HeadAscends cmp steps) k [] up (All-nil (HeadAscends cmp steps)))
 
-  all-ascend : (its : List S) (ones : List (List (InputHead S A))) → AllZip R its ones → AllByRecursion (InOrder cmp steps) its → All (HeadAscends cmp steps) (flat_map (λ one. one) ones)
-  unfolding R
+  all-ascend : (its : List S) (ones : List (List (InputHead S A))) → AllZip (Begun steps) its ones → AllByRecursion (InOrder cmp steps) its → All (HeadAscends cmp steps) (flat_map (λ one. one) ones)
   all-ascend [] [] z a = All-nil (HeadAscends cmp steps)
   all-ascend [] (one ∷ ones) z a = absurd z
   all-ascend (it ∷ its) [] z a = absurd z
-  all-ascend (it ∷ its) (one ∷ ones) z a = All-append (HeadAscends cmp steps) one (flat_map (λ one. one) ones) (begun-ascends it z.0.0 one z.0.1 a.0) (all-ascend its ones z.1 a.1)
+  all-ascend (it ∷ its) (one ∷ ones) z a = All-append (HeadAscends cmp steps) one (flat_map (λ one. one) ones) (begun-ascends it one z.0 a.0) (all-ascend its ones z.1 a.1)
 
   pub heads-ascend : (its : List S) (hs ks : List (InputHead S A)) → Started steps its hs → IsPermutation hs ks → AllByRecursion (InOrder cmp steps) its → All (HeadAscends cmp steps) ks
-  unfolding R
   heads-ascend its hs ks st moved asc = All-permutation (HeadAscends cmp steps) hs ks moved (subst (All (HeadAscends cmp steps)) st.2 (all-ascend its st.0 st.1 asc))
 
   module _ (m : List A) (w : Bool) where
@@ -73,8 +65,8 @@ module _ {S A : Type 0} {cmp : A → A → Ordering} (o : IsTotalOrder cmp) (ste
     Inputs its bs = (qs : List (Run steps)) × AllZip (λ it q. q.from ≡ it) its qs × All (λ q. IsPassed cmp m w q.items q.whole) qs × ((x : A) → In bs x → Any (λ q. Contains q.items x) qs)
 
     -- the runs of the inputs
-    inputs : (its : List S) (ones : List (List (InputHead S A))) (bs : List (Bundle S A)) → AllZip R its ones → map (λ b. b.0) bs ≡ flat_map (λ one. one) ones → All (Tail cmp steps) bs → All P bs → Inputs its bs
-    unfolding R P Inputs
+    inputs : (its : List S) (ones : List (List (InputHead S A))) (bs : List (Bundle S A)) → AllZip (Begun steps) its ones → map (λ b. b.0) bs ≡ flat_map (λ one. one) ones → All (Tail cmp steps) bs → All P bs → Inputs its bs
+    unfolding P Inputs
     inputs [] [] bs z e t p = ([], tt, All-nil (λ q. IsPassed cmp m w q.items q.whole), λ x i. absurd (none bs e i))
       where
         none : (bs : List (Bundle S A)) → map (λ b. b.0) bs ≡ [] → {x : A} → In bs x → ⊥
@@ -82,15 +74,15 @@ module _ {S A : Type 0} {cmp : A → A → Ordering} (o : IsTotalOrder cmp) (ste
         none (b ∷ bs) e i = absurd cc
     inputs [] (one ∷ ones) bs z e t p = absurd z
     inputs (it ∷ its) [] bs z e t p = absurd z
-    inputs (it ∷ its) (one ∷ ones) bs (zs, z) e t p = go (λ cs e t p. inputs its ones cs z e t p) zs.1
+    inputs (it ∷ its) (one ∷ ones) bs (zs, z) e t p = go (λ cs e t p. inputs its ones cs z e t p) zs
       where
-        go : ((cs : List (Bundle S A)) → map (λ b. b.0) cs ≡ flat_map (λ one. one) ones → All (Tail cmp steps) cs → All P cs → Inputs its cs) → Begun steps it zs.0 one → Inputs (it ∷ its) bs
+        go : ((cs : List (Bundle S A)) → map (λ b. b.0) cs ≡ flat_map (λ one. one) ones → All (Tail cmp steps) cs → All P cs → Inputs its cs) → Begun steps it one → Inputs (it ∷ its) bs
         go on (inl k) =
             let r = on bs (e ∙ ap (λ l. l ++ flat_map (λ one. one) ones) k.2) t p in
             let q = run steps it [] true (it, refl, λ _. (k.0, k.1)) in
             (q ∷ r.0, (refl, r.1), All-cons (λ q. IsPassed cmp m w q.items q.whole) q r.0 ([], tt, inl (refl, refl)) r.2, λ x i. any-there (λ q. Contains q.items x) q r.0 (r.3 x i))
         go on (inr k) =
-            let head : InputHead S A = record { item = k.0; rest = k.1; place = zs.0 } in
+            let head : InputHead S A = record { item = k.0; rest = k.1 } in
             let parts = map-cons (λ (b : Bundle S A). b.0) bs head (flat_map (λ one. one) ones) (e ∙ ap (λ l. l ++ flat_map (λ one. one) ones) k.3) in
             let b = parts.0 in
             let rest = parts.1 in
@@ -109,7 +101,7 @@ module _ {S A : Type 0} {cmp : A → A → Ordering} (o : IsTotalOrder cmp) (ste
 
   module _ {T : Type 0} (inner : T → List (InputHead S A)) (its : List S) (hs : List (InputHead S A)) (s : T) (st : Started steps its hs) (moved : IsPermutation hs (inner s)) (asc : AllByRecursion (InOrder cmp steps) its) where
     pub runs-are : MultiRunsAre cmp (Through inner (multi_steps cmp steps)) s steps its
-    unfolding R P Inputs
+    unfolding P Inputs
     runs-are = record {
       behind = λ p on at.
           let t = took p in

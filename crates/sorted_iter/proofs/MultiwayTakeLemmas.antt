@@ -1,10 +1,9 @@
 -- The first head of a heap goes on, or leaves.
-use Rattle.std.proofs.Common.{◌≡◌, ℕ, suc, ◌+◌, ◌-◌, ◌<◌, inl, inr, Bool, false, List, [], ◌∷◌, ◌++◌, length, slice_index_or, slice_set, swap_remove, Option, Some, None, All, IsPermutation, T, true, ◌&&◌, refl, sym, ap, ◌∙◌, subst, arith}
-use Rattle.std.specs.Cmp.{IsTotalOrder, IsStrictWeakOrder, then_total, on_total, nat_cmp_total}
+use Rattle.std.proofs.Common.{◌≡◌, ℕ, suc, ◌+◌, ◌-◌, ◌<◌, inl, inr, Bool, false, List, [], ◌∷◌, ◌++◌, length, slice_index_or, slice_set, swap_remove, Option, Some, None, All, IsPermutation, T, true, ◌&&◌, refl, sym, ◌∙◌, subst, arith}
+use Rattle.std.specs.Cmp.{IsTotalOrder, IsStrictWeakOrder}
 use Rattle.std.specs.Iterator.{Count, IsFinite, size, MakesProgress}
 use Rattle.std.specs.List.{list_all}
-use Rattle.std.specs.Ordering.{is_lt, ordering_then}
-use Rattle.std.specs.declared.cmp.Ordering.TheVariants.{Less, Equal, Greater}
+use Rattle.std.specs.Ordering.{is_lt}
 use Rattle.std.specs.declared.cmp.Ordering.{Ordering}
 use Rattle.std.proofs.lemmas.List.{get_or_default}
 use Rattle.std.proofs.lemmas.List.Elements.{All-nil, All-cons, All-head, All-tail, All-append, All-from_get_or}
@@ -23,23 +22,14 @@ swap_remove-any (z ∷ xs) x y =
     let n : suc (length (z ∷ xs)) - 1 ≡ suc (length xs) = omega arith in
     rw (n, get_or_default (z ∷ xs) (length xs) x y (omega arith)) refl
 
-abbrev one_head : {S A : Type 0} → A → S → ℕ → List (InputHead S A)
-one_head x s p = record { item = x; rest = s; place = p } ∷ []
-
 -- an order on items is one on heads
 pub heads-order : (S : Type 0) {A : Type 0} {cmp : A → A → Ordering} → IsTotalOrder cmp → IsStrictWeakOrder (before {S = S} cmp)
-heads-order S {A} o = ranks_by (then_total (on_total (λ (h : InputHead S A). h.item) o) (on_total (λ (h : InputHead S A). h.place) nat_cmp_total)) (λ h. h)
-
-not_less : (r s : Ordering) → is_lt (ordering_then r s) ≡ false → is_lt r ≡ false
-not_less Less s e = e
-not_less Equal s e = refl
-not_less Greater s e = refl
+heads-order S o = ranks_by o (λ h. h.item)
 
 module _ {S A : Type 0} {cmp : A → A → Ordering} (o : IsTotalOrder cmp) (steps : S → Option A → S → Type 0) where
   -- no head has a lesser item than the first
   pub least : (h : InputHead S A) (hs : List (InputHead S A)) → IsHeap (before cmp) (h ∷ hs) → All (λ k. is_lt (cmp k.item h.item) ≡ false) (h ∷ hs)
-  least h hs heap = All-from_get_or (λ k. is_lt (cmp k.item h.item) ≡ false) (h ∷ hs) h
-      (λ i l. not_less _ _ (first_is_least (heads-order S o) (h ∷ hs) heap i h l))
+  least h hs heap = All-from_get_or (λ k. is_lt (cmp k.item h.item) ≡ false) (h ∷ hs) h (λ i l. first_is_least (heads-order S o) (h ∷ hs) heap i h l)
 
 module _ {S A : Type 0} {cmp : A → A → Ordering} (o : IsTotalOrder cmp) (steps : S → Option A → S → Type 0) (can : S → Type 0) (left : S → Count) where
   -- what holds after one head went on as `one`
@@ -67,7 +57,7 @@ module _ {S A : Type 0} {cmp : A → A → Ordering} (o : IsTotalOrder cmp) (ste
       (rw e' (omega (arith, on.2))) in
       let low = All-tail (λ z. is_lt (cmp z.item y.item) ≡ false) y hs (least o steps y hs heap) in (
         t.0,
-        (y, hs, k ∷ [], IsPermutation-refl (y ∷ hs), rw (e', g.0) refl, rw (g.0, sym e') low, inr (k.item, k.rest, rw e' g.1, ap (λ p. one_head k.item k.rest p) (rw e' g.2)), q),
+        (y, hs, k ∷ [], IsPermutation-refl (y ∷ hs), rw (e', g.0) refl, rw (g.0, sym e') low, inr (k.item, k.rest, rw e' g.1, refl), q),
         t.1,
       )
 

@@ -21,9 +21,8 @@ pub record ComesAlike {S A : Type 0} (can : S → Type 0) (left : S → Count) (
   pub ends : IsFinite (left s) → IsFinite (left t)
   pub runs : EachRunFrom steps t (λ p. SomeRun steps s (λ q. AreAlike cmp q p))
 
--- k has clones of the item and of the input of h, and its place
+-- k has clones of the item and of the input of h
 pub record IsHeadClone {S A : Type 0} (is_input_clone : S → S → Type 0) (is_item_clone : A → A → Type 0)
     (h k : InputHead S A) : Type 0 where
   pub input : is_input_clone h.rest k.rest
   pub item : is_item_clone h.item k.item
-  pub place : k.place ≡ h.place

@@ -1,5 +1,5 @@
 -- From the last state of a run back to the first: the runs of the inputs that stand behind it.
-use Rattle.std.proofs.Common.{◌≡◌, ℕ, zero, suc, inl, inr, ◌⊎◌, ⊎_elim, Bool, true, false, List, [], ◌∷◌, ◌++◌, map, slice_index_or, Option, Some, All, Contains, IsPermutation, refl, sym, ap, ◌∙◌, subst, arith, true≢false}
+use Rattle.std.proofs.Common.{◌≡◌, zero, suc, inl, inr, ◌⊎◌, ⊎_elim, Bool, true, false, List, [], ◌∷◌, ◌++◌, map, slice_index_or, Option, Some, All, Contains, IsPermutation, refl, sym, ap, ◌∙◌, subst, arith, true≢false}
 use Rattle.std.specs.Cmp.{IsTotalOrder}
 use Rattle.std.specs.Iterator.{Yields, DrainsIf}
 use Rattle.std.specs.List.{AllByRecursion}
@@ -100,15 +100,15 @@ module _ {S A : Type 0} (cmp : A → A → Ordering) (steps : S → Option A →
 module _ {S A : Type 0} {cmp : A → A → Ordering} (o : IsTotalOrder cmp) (steps : S → Option A → S → Type 0) where
   -- ---- forward: the heads stay in order
 
-  begun-ascends : (h : InputHead S A) (p : ℕ) (one : List (InputHead S A)) → Begun steps h.rest p one → HeadAscends cmp steps h
+  begun-ascends : (h : InputHead S A) (one : List (InputHead S A)) → Begun steps h.rest one → HeadAscends cmp steps h
       → All (HeadAscends cmp steps) one × All (λ k. cmp h.item k.item ≡ Less) one
-  begun-ascends h p one (inl b) a = (
+  begun-ascends h one (inl b) a = (
     subst (All (HeadAscends cmp steps)) (sym b.2) (All-nil (HeadAscends cmp steps)),
     subst
         (All (λ k. cmp h.item k.item ≡ Less)) (sym b.2) (All-nil (λ k. cmp h.item k.item ≡ Less)),
   )
-  begun-ascends h p one (inr b) a =
-      let k : InputHead S A = record { item = b.0; rest = b.1; place = p } in
+  begun-ascends h one (inr b) a =
+      let k : InputHead S A = record { item = b.0; rest = b.1 } in
       let up : HeadAscends cmp steps k = record {
         ascends = λ xs t y. sorted-rest cmp h.item (b.0 ∷ xs)
             (a.ascends (b.0 ∷ xs) t (b.1, b.2, y));
@@ -132,7 +132,7 @@ module _ {S A : Type 0} {cmp : A → A → Ordering} (o : IsTotalOrder cmp) (ste
       let others = t.1 in
       let one = t.2 in
       let moved = All-permutation (HeadAscends cmp steps) hs (h ∷ others) t.3 a in
-      let b = begun-ascends h h.place one t.6 (All-head (HeadAscends cmp steps) h others moved) in
+      let b = begun-ascends h one t.6 (All-head (HeadAscends cmp steps) h others moved) in
       let Q : InputHead S A → Type 0 = λ k. is_lt (cmp k.item x) ≡ false in (
         All-permutation (HeadAscends cmp steps) (one ++ others) ks t.7
             (All-append (HeadAscends cmp steps) one others b.0 (All-tail (HeadAscends cmp steps) h others moved)),
@@ -173,7 +173,7 @@ module _ {S A : Type 0} {cmp : A → A → Ordering} (o : IsTotalOrder cmp) (ste
             (λ k. inr (k.0, k.1, k.2, ap (λ t. h.item ∷ t) k.3, k.4)) c,
       )
 
-      rebuilt : Begun steps h.rest h.place one → Rebuilt
+      rebuilt : Begun steps h.rest one → Rebuilt
       rebuilt (inl k) =
           let ws = lifted.0 in
           let c : Bundle S A = (h, [], true) in
@@ -187,7 +187,7 @@ module _ {S A : Type 0} {cmp : A → A → Ordering} (o : IsTotalOrder cmp) (ste
             λ z i. (i.0, there c i.0 ws i.1, i.2),
           )
       rebuilt (inr k) =
-          let head : InputHead S A = record { item = k.0; rest = k.1; place = h.place } in
+          let head : InputHead S A = record { item = k.0; rest = k.1 } in
           let parts = map-cons (λ (c : Bundle S A). c.0) lifted.0 head others (lifted.1 ∙ ap (λ t. t ++ others) k.3) in
           let v = parts.0 in
           let vr = parts.1 in

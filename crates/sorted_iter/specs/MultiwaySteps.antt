@@ -1,5 +1,5 @@
 -- The union of many streams: a call takes the least item, and then each further head that is equal to it.
-use Rattle.std.specs.Prelude.{◌≡◌, ℕ, ◌⊎◌, Bool, true, false, List, [], ◌∷◌, ◌++◌, Option, MatchOption, All, Any, Contains, flat_map}
+use Rattle.std.specs.Prelude.{◌≡◌, ◌⊎◌, Bool, true, false, List, [], ◌∷◌, ◌++◌, Option, MatchOption, All, Any, Contains, flat_map}
 use Rattle.std.specs.Iterator.Runs.{Run, EachRunFrom}
 use Rattle.std.specs.List.{AllByRecursion, AllZip}
 use Rattle.std.specs.List.Sorted.{IsStrictlySortedBy}
@@ -49,7 +49,7 @@ pub record MultiRunsAre {S A T : Type 0} (cmp : A → A → Ordering) (ofs : T �
 
 -- the inputs its were asked for their first items, and hs are the heads of those that gave one
 abbrev pub Started : {S A : Type 0} → (S → Option A → S → Type 0) → List S → List (InputHead S A) → Type 0
-Started {S} {A} steps its hs = (ones : List (List (InputHead S A))) × AllZip (λ it one. (p : ℕ) × Begun steps it p one) its ones
+Started {S} {A} steps its hs = (ones : List (List (InputHead S A))) × AllZip (Begun steps) its ones
     × (flat_map (λ one. one) ones ≡ hs)
 
 -- where the lists that the inputs give are known, each whole run of the stream s gives a multiway union of them

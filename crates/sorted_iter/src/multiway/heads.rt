@@ -18,9 +18,6 @@ where
 
     /// The rest of the input.
     pub rest: I,
-
-    /// The place of the input among those that had an item.
-    pub place: usize,
 }
 
 impl<I: Iterator> InputHead<I>
@@ -28,6 +25,7 @@ where
     I::Item: Drop,
 {
     // Returns the item, where the input has another one, which takes its place.
+    #[inline]
     pub(crate) fn advance(&mut self) -> Option<I::Item>
         requires { I.can_next self.old.rest }
         ensures steps { GoesOn I.next_gives self.old result self.new }
@@ -37,7 +35,7 @@ where
         Some(mem::replace(&mut self.item, next))
     }
 
-    // Returns the same place with a clone of the item and one of the rest of the input.
+    // Returns clones of the item and of the rest of the input.
     pub(crate) fn try_clone(&self) -> Result<Self, NoMemory>
     where
         I: Clone,
@@ -47,7 +45,6 @@ where
         Ok(InputHead {
             item: self.item.clone()?,
             rest: self.rest.clone()?,
-            place: self.place,
         })
     }
 }

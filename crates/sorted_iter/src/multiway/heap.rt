@@ -6,16 +6,18 @@ ghost use Rattle.sorted_iter.specs.MultiwayHeads.{before};
 use crate::multiway::heads::InputHead;
 use std::cmp::Ordering;
 
-// Whether `a` has the lesser item, or an equal one and the lesser place.
+// Whether `a` has the lesser item.
+#[inline]
 fn is_before<I: Iterator>(a: &InputHead<I>, b: &InputHead<I>) -> bool
 where
     I::Item: Ord + Drop,
     ensures { result ≡ before I.Item.cmp a.now b.now }
 {
-    a.item.cmp(&b.item).then(a.place.cmp(&b.place)) == Ordering::Less
+    a.item.cmp(&b.item) == Ordering::Less
 }
 
 // The place of the lesser child of the head at `place`.
+#[inline]
 fn lesser_child<I: Iterator>(heads: &Vec<InputHead<I>>, place: usize) -> usize
 where
     I::Item: Ord + Drop,
@@ -51,6 +53,7 @@ where
 }
 
 // Moves the first head down to its place, where the others are in order.
+#[inline]
 pub(crate) fn sift_down<I: Iterator>(heads: &mut Vec<InputHead<I>>)
 where
     I::Item: Ord + Drop,

@@ -32,8 +32,7 @@ where
     for it in iters {
         let mut rest = it;
         if let Some(item) = rest.next() {
-            let place = heads.len();
-            heads.push(InputHead { item, rest, place })?;
+            heads.push(InputHead { item, rest })?;
         }
     }
     Ok(heads)

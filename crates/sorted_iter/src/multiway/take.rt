@@ -41,6 +41,7 @@ where
 }
 
 // Whether the first head has an item equal to x.
+#[inline]
 fn begins_with<I: Iterator>(heads: &Vec<InputHead<I>>, x: &I::Item) -> bool
 where
     I::Item: Ord + Drop,

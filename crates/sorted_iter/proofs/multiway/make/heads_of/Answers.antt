@@ -19,7 +19,7 @@ loop-it-preserved-in-Continue-1 g c =
       n.keeps,
       (n.on i.1).1,
       rw c.in_ok-push.ensures.items (All-push (can_go g.I.Iterator.can_next g.I.Iterator.remaining) _ _ i.2 (on.0, on.1)),
-      rw c.in_ok-push.ensures.items (started-more g.I.Iterator.next_gives _ _ c.in-Some.it _ _ i.3 (inr (c.in-Some-next.item, c.next-in-loop-it.new.self, c.in-Some-next.ensures.steps, refl))),
+      rw c.in_ok-push.ensures.items (started-more g.I.Iterator.next_gives _ _ c.in-Some.it _ i.3 (inr (c.in-Some-next.item, c.next-in-loop-it.new.self, c.in-Some-next.ensures.steps, refl))),
     )
 
 pub loop-it-preserved : goal.loop-it-preserved
@@ -30,7 +30,7 @@ loop-it-preserved g c =
       n.keeps,
       (n.on i.1).1,
       i.2,
-      subst (λ (l : List S). Started g.I.Iterator.next_gives (c.loop-it.yielded ++ c.in-Some.it ∷ []) l) (append-nil c.loop-it.heads.items) (started-more g.I.Iterator.next_gives _ _ c.in-Some.it 0 _ i.3 (inl (c.next-in-loop-it.new.self, c.in_default.ensures.steps, refl))),
+      subst (λ (l : List S). Started g.I.Iterator.next_gives (c.loop-it.yielded ++ c.in-Some.it ∷ []) l) (append-nil c.loop-it.heads.items) (started-more g.I.Iterator.next_gives _ _ c.in-Some.it _ i.3 (inl (c.next-in-loop-it.new.self, c.in_default.ensures.steps, refl))),
     )
 
 pub returns-clause-started : goal.returns-clause-started
