@@ -10,7 +10,7 @@ use Rattle.number_line.proofs.PieceLemmas.{AreCutTo, with_piece}
 use Rattle.number_line.proofs.ManyLemmas.{IsSide, AreSides, OneEnds, cut_all_sides}
 use Rattle.blaze_joins.specs.declared.many.Side.{Side}
 use Rattle.blaze_joins.specs.Filled.{IsOptionClone}
-use Rattle.blaze_joins.specs.PieceView.{at_place}
+use Rattle.blaze_joins.specs.PlaceView.{at_place}
 use Rattle.blaze_joins.specs.SideView.{holders_in, least_of, ends_of, IsSideOf, AreSidesOf}
 
 -- ---- the least of some numbers

@@ -1,7 +1,7 @@
 pub mod LastValue
 pub mod Filled
-pub mod Keys
-pub mod PieceView
+pub mod PlaceView
+pub mod WalkView
 pub mod Joins
 pub mod Laws
 pub mod SideView

@@ -6,7 +6,7 @@ use Rattle.element_core.specs.Numbering.{Numbering}
 use Rattle.number_line.specs.Pieces.{HoldersOfAll}
 use Rattle.number_line.proofs.PieceLemmas.{IsHeld, IsLeft}
 use Rattle.blaze_joins.specs.declared.many.Side.{Side}
-use Rattle.blaze_joins.specs.PieceView.{at_place}
+use Rattle.blaze_joins.specs.PlaceView.{at_place}
 
 -- the pair of each map at the place that the walk found
 abbrev pub holders_in : {T V : Type 0} → List (List ((ℤ × ℤ) × V)) → List (Side T) → HoldersOfAll V

@@ -7,12 +7,13 @@ ghost use Rattle.number_line.specs.Pieces.{value_in, values_of_all, in_all};
 ghost use Rattle.number_line.specs.Valued.{IsCanonicalMap};
 ghost use Rattle.blaze_joins.specs.Filled.{IsOptionClone};
 ghost use Rattle.blaze_joins.specs.Joins.{IsFullJoinOfAll, IsInnerJoinOfAll};
-ghost use Rattle.blaze_joins.specs.PieceView.{at_place};
+ghost use Rattle.blaze_joins.specs.PlaceView.{at_place};
 ghost use Rattle.blaze_joins.specs.SideView.{IsPlace, IsSideOf, AreSidesOf};
 ghost use Rattle.blaze_joins.specs.SideView.{holders_in, least_of, ends_of};
 
 use crate::map::RangeMapBlaze;
-use crate::pieces::{held_from, lesser, place_behind};
+use crate::places::{held_from, place_behind};
+use crate::walk::lesser;
 use element_core::{Element, NoMemory};
 use range_map::{Range, RangeMap};
 use std::alloc::Global;

@@ -4,7 +4,7 @@ use Rattle.std.proofs.Common.{◌≡◌, ◌+◌, [], ◌∷◌, drop, map, arit
 use Rattle.std.specs.Prelude.{Some, is_some, ◌&&◌}
 use Rattle.number_line.specs.Pieces.{value_in, values_of_all, in_all}
 use Rattle.blaze_joins.specs.Filled.{IsOptionClone}
-use Rattle.blaze_joins.specs.PieceView.{at_place}
+use Rattle.blaze_joins.specs.PlaceView.{at_place}
 use Rattle.blaze_joins.specs.SideView.{holders_in}
 use Rattle.blaze_joins.proofs.CallLemmas.{and_left, and_right}
 use Rattle.blaze_joins.proofs.SideLemmas.{value_there, clone_there}

@@ -2,7 +2,7 @@ use Rattle.std.proofs.lemmas.Grind.{common_steps}
 use Rattle.std.proofs.Common.{◌≡◌, ◌+◌, [], ◌∷◌, drop, arith, refl}
 use Rattle.number_line.specs.Pieces.{value_in, values_of_all}
 use Rattle.blaze_joins.specs.Filled.{IsOptionClone}
-use Rattle.blaze_joins.specs.PieceView.{at_place}
+use Rattle.blaze_joins.specs.PlaceView.{at_place}
 use Rattle.blaze_joins.specs.SideView.{holders_in}
 use Rattle.number_line.proofs.ZippedLemmas.{zipped_start, zipped_step, zipped_end}
 use Rattle.blaze_joins.proofs.many.values_of_each.Goals as goal
