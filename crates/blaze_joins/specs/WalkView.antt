@@ -52,7 +52,8 @@ module _ {T V W : Type 0} (numbers : Numbering T) where
   abbrev pub pieces_to_come : Walk T V W → ℕ
   pieces_to_come walk = pieces_from (pairs_in_numbers numbers walk.left.now) (pairs_in_numbers numbers walk.right.now) walk.start
 
-module _ {T V W : Type 0} (numbers : Numbering T) (same : V → V → Bool) (other : W → W → Bool) (a : List ((ℤ × ℤ) × V)) (b : List ((ℤ × ℤ) × W)) where
+module _ {T V W : Type 0} (numbers : Numbering T) (same : V → V → Bool) (other : W → W → Bool) (a : List ((ℤ × ℤ) × V))
+    (b : List ((ℤ × ℤ) × W)) where
   -- the walk has what is left of either list from its next number on
   pub record IsWalkOf (walk : Walk T V W) : Type 0 where
     pub left : IsLeft same numbers.greatest numbers.least a (pairs_in_numbers numbers walk.left.now) (next_number numbers walk.start)
@@ -62,6 +63,7 @@ module _ {T V W : Type 0} (numbers : Numbering T) (same : V → V → Bool) (oth
   pub record IsNextOf (old : Walk T V W) (piece : Piece T V W) (new : Walk T V W) : Type 0 where
     pub begins : numbers.number piece.range.0 ≡ next_number numbers old.start
     pub low : numbers.least ≤ℤ numbers.number piece.range.0
-    pub held : AreHeld same_holders (holders_at a b) numbers.greatest (numbers.number piece.range.0) (numbers.number piece.range.1) (holders_of numbers piece)
+    pub held : AreHeld same_holders (holders_at a b) numbers.greatest (numbers.number piece.range.0) (numbers.number piece.range.1)
+        (holders_of numbers piece)
     pub goes_on : next_number numbers new.start ≡ numbers.number piece.range.1 +ℤ pos 1
     pub walk : IsWalkOf new
