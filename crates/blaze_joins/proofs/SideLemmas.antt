@@ -15,13 +15,13 @@ use Rattle.blaze_joins.specs.SideView.{holders_in, least_of, ends_of, IsSideOf, 
 
 -- ---- the least of some numbers
 
-min_low : (a b : ℤ) → int_min a b ≤ℤ a
+pub min_low : (a b : ℤ) → int_min a b ≤ℤ a
 min_low a b = grind (arith, ints)
 
-min_low_right : (a b : ℤ) → int_min a b ≤ℤ b
+pub min_low_right : (a b : ℤ) → int_min a b ≤ℤ b
 min_low_right a b = grind (arith, ints)
 
-min_other : (a b : ℤ) → (a ≡ int_min a b → ⊥) → int_min a b ≡ b
+pub min_other : (a b : ℤ) → (a ≡ int_min a b → ⊥) → int_min a b ≡ b
 min_other a b h = grind (arith, ints)
 
 min_apart : (a b c : ℤ) → int_min (int_min a b) c ≡ int_min a (int_min b c)

@@ -1,5 +1,5 @@
 -- A walk over two maps: what holds its next number in either, and how many pieces may come.
-use Rattle.std.proofs.Common.{◌≡◌, ℕ, ◌+◌, ◌*◌, ◌<◌, ◌≤◌, List, [], ◌∷◌, length, refl, arith, ap, sym, drop, slice_get, Some, None}
+use Rattle.std.proofs.Common.{◌≡◌, ℕ, ◌+◌, ◌*◌, ◌<◌, ◌≤◌, List, [], ◌∷◌, length, refl, arith, ap, sym, ◌∙◌, Some, None}
 use Rattle.std.specs.Prelude.{ℤ, pos, ◌+ℤ◌, ◌-ℤ◌, ◌≤ℤ◌, ◌<ℤ◌, Bool, true, false, int_lt, if◌then◌else◌, Option, IfSome, IsNone, ◌↔◌}
 use Rattle.std.specs.Int.{int_min}
 use Rattle.std.proofs.lemmas.Int.{ints, by_lt_z}
@@ -8,12 +8,8 @@ use Rattle.number_line.specs.Valued.{IsCanonicalMap}
 use Rattle.number_line.specs.Pieces.{holders_at, same_holders}
 use Rattle.number_line.proofs.OrderLemmas.{lt_yes, lt_no}
 use Rattle.number_line.proofs.PieceLemmas.{IsHeld, EndsFrom, IsLeft, left_stays, left_goes, AreHeld, held_both, ends_from-lower, held_by_none, held_before, held_by_first}
+use Rattle.blaze_joins.proofs.SideLemmas.{min_low, min_low_right, min_other}
 use Rattle.blaze_joins.specs.WalkView.{first_holder, first_end, ranges_behind, ends_within, next_number, pieces_from}
-
--- the item at the first place is the first
-pub first_is : {A : Type 0} (xs : List A) (x : A) → Some x ≡ slice_get xs 0 → xs ≡ x ∷ drop 1 xs
-first_is [] x e = absurd (cc)
-first_is (y ∷ xs) x e = let one : x ≡ y = cc in rw one refl
 
 module _ {V : Type 0} (same : V → V → Bool) (lo hi n : ℤ) where
   first_held : (list : List ((ℤ × ℤ) × V)) → n ≤ℤ hi → IsCanonicalMap same lo hi list → EndsFrom n list → IsHeld same hi list n (first_end hi n list) (first_holder n list)
@@ -68,15 +64,6 @@ module _ {V : Type 0} (same : V → V → Bool) (lo hi n end : ℤ) where
 
 -- ---- the next piece
 
-min_low : (e f k : ℤ) → k ≡ int_min e f → k ≤ℤ e
-min_low e f k h = grind (arith, ints)
-
-min_low_right : (e f k : ℤ) → k ≡ int_min e f → k ≤ℤ f
-min_low_right e f k h = grind (arith, ints)
-
-min_other : (e f k : ℤ) → k ≡ int_min e f → (k ≡ e → ⊥) → k ≡ f
-min_other e f k h apart = grind (arith, ints)
-
 -- the number that comes behind `end`
 pub number_behind : {T : Type 0} (numbers : Numbering T) (next : Option T) (end : ℤ) → IfSome next (λ y. numbers.IsValue y × (numbers.number y ≡ end +ℤ pos 1))
     → (IsNone next ↔ (end ≡ numbers.greatest)) → next_number numbers next ≡ end +ℤ pos 1
@@ -93,10 +80,10 @@ module _ {V W : Type 0} (same : V → V → Bool) (other : W → W → Bool) (lo
   held_right = first_held other lo hi n right high on_right.canonical on_right.ends
 
   low_left : end ≤ℤ first_end hi n left
-  low_left = min_low (first_end hi n left) (first_end hi n right) end least
+  low_left = rw least (min_low (first_end hi n left) (first_end hi n right))
 
   low_right : end ≤ℤ first_end hi n right
-  low_right = min_low_right (first_end hi n left) (first_end hi n right) end least
+  low_right = rw least (min_low_right (first_end hi n left) (first_end hi n right))
 
   pub walk_held : AreHeld same_holders (holders_at a b) hi n end (first_holder n left, first_holder n right)
   walk_held = held_both lo hi a b same other left right n _ _ end _ _ least on_left on_right held_left held_right
@@ -109,7 +96,7 @@ module _ {V W : Type 0} (same : V → V → Bool) (other : W → W → Bool) (lo
 
   pub walk_fewer : end <ℤ hi → (ends_within (end +ℤ pos 1) (ranges_behind end left) + ends_within (end +ℤ pos 1) (ranges_behind end right)) < (ends_within n left + ends_within n right)
   walk_fewer below = by_lt_z end (first_end hi n left)
-      (λ k. let one = min_other _ _ end least (λ h. omega (arith, ints)) in let fewer = fall_right.fewer one below in let most = fall_left.at_most in omega arith)
+      (λ k. let one : end ≡ first_end hi n right = least ∙ min_other _ _ (λ h. omega (arith, ints)) in let fewer = fall_right.fewer one below in let most = fall_left.at_most in omega arith)
       (λ k. let one : end ≡ first_end hi n left = let h = low_left in omega (arith, ints) in let fewer = fall_left.fewer one below in let most = fall_right.at_most in omega arith)
     where
       fall_left : FallTo hi end (ends_within n left) (ends_within (end +ℤ pos 1) (ranges_behind end left)) (first_end hi n left)

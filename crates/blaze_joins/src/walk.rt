@@ -1,6 +1,7 @@
 //! The walk over two maps that cuts the keys into pieces: the ranges of keys on each of which what
 //! holds a key, in either map, stays the same.
-ghost use Rattle.std.specs.Prelude.{◌≡◌, ℤ, ◌+◌, ◌*◌, ◌<◌, ◌≤◌, ◌≤ℤ◌, List, None, IfSome, IfNone, length};
+ghost use Rattle.std.specs.Prelude.{◌≡◌, ◌+◌, ◌*◌, ◌<◌, ◌≤◌, ℤ, ◌≤ℤ◌};
+ghost use Rattle.std.specs.Prelude.{List, None, IfSome, IfNone, length};
 ghost use Rattle.std.specs.Int.{int_min};
 ghost use Rattle.number_line.specs.Pieces.{in_either};
 ghost use Rattle.number_line.specs.Valued.{IsCanonicalMap};

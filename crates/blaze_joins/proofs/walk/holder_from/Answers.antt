@@ -2,7 +2,7 @@ use Rattle.std.proofs.Common.{ap, refl, arith}
 use Rattle.std.proofs.lemmas.Int.{ints}
 use Rattle.number_line.proofs.OrderLemmas.{lt_yes, lt_no}
 use Rattle.range_map.specs.Valued.{pairs_in_numbers}
-use Rattle.blaze_joins.proofs.WalkLemmas.{first_is}
+use Rattle.blaze_joins.proofs.PlaceLemmas.{first_is}
 use Rattle.blaze_joins.proofs.walk.holder_from.Goals as goal
 
 pub returns-then-not-is_below-clause-end : goal.returns-then-not-is_below-clause-end
