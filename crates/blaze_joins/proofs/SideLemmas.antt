@@ -30,7 +30,7 @@ min_apart a b c = grind (arith, ints)
 min_is : (a b : ℤ) → b ≤ℤ a → int_min a b ≡ b
 min_is a b h = grind (arith, ints)
 
-min_above : (n a b : ℤ) → n ≤ℤ a → n ≤ℤ b → n ≤ℤ int_min a b
+pub min_above : (n a b : ℤ) → n ≤ℤ a → n ≤ℤ b → n ≤ℤ int_min a b
 min_above n a b h k = grind (arith, ints)
 
 pub least_high : (hi : ℤ) (list : List ℤ) → least_of hi list ≤ℤ hi

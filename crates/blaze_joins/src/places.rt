@@ -3,7 +3,8 @@ ghost use Rattle.std.specs.Prelude.{◌≡◌, ℤ, pos, ◌+ℤ◌, ◌≤ℤ�
 ghost use Rattle.std.specs.Prelude.{List, is_some, length};
 ghost use Rattle.number_line.specs.Valued.{IsCanonicalMap};
 ghost use Rattle.number_line.proofs.PieceLemmas.{IsHeld, EndsFrom, IsLeft};
-ghost use Rattle.blaze_joins.specs.PlaceView.{pairs_from, pair_at_place};
+ghost use Rattle.blaze_joins.specs.PlaceView.{pairs_from, ranges_from, ranges_behind};
+ghost use Rattle.blaze_joins.specs.PlaceView.{pair_at_place};
 
 use element_core::{Element, is_below};
 use range_map::Range;
@@ -55,16 +56,33 @@ pub(crate) fn held_from<T: Element, V: Eq>(pairs: &[(Range<T>, V)], at: usize, s
     }
 }
 
-// Returns the place behind the pairs that end at the key `end`. None of those from the place `at`
-// on ends before it.
-pub(crate) fn place_behind<T: Element, V: Eq>(pairs: &[(Range<T>, V)], at: usize, end: T) -> usize
-    requires ends { EndsFrom (T.numbers.number end) (pairs_from T.numbers at pairs.now) }
+// Returns the first place from `at` on whose pair ends at the key `start` or behind it, or how many
+// pairs there are.
+#[inline]
+pub(crate) fn place_from<T: Element, V: Eq>(pairs: &[(Range<T>, V)], at: usize, start: T) -> usize
     requires within { at ≤ length pairs.now }
     ensures within { result ≤ length pairs.now }
-    ensures left { (lo n : ℤ) (all : List ((ℤ × ℤ) × V)) → n ≤ℤ T.numbers.number end
-        → IsLeft V.eq T.numbers.greatest lo all (pairs_from T.numbers at pairs.now) n
-        → IsLeft V.eq T.numbers.greatest lo all (pairs_from T.numbers result pairs.now)
-        (T.numbers.number end +ℤ pos 1) }
+    ensures pairs { pairs_from T.numbers result pairs.now
+        ≡ ranges_from (T.numbers.number start) (pairs_from T.numbers at pairs.now) }
+{
+    let mut place = at;
+    while let Some(pair) = pairs.get(place) {
+        if !is_below(pair.0.end(), start) {
+            return place;
+        }
+        place += 1;
+    }
+    place
+}
+
+// Returns the place behind the pairs that end at the key `end`. None of those from the place `at`
+// on ends before it.
+#[inline]
+pub(crate) fn place_behind<T: Element, V: Eq>(pairs: &[(Range<T>, V)], at: usize, end: T) -> usize
+    requires within { at ≤ length pairs.now }
+    ensures within { result ≤ length pairs.now }
+    ensures pairs { pairs_from T.numbers result pairs.now
+        ≡ ranges_behind (T.numbers.number end) (pairs_from T.numbers at pairs.now) }
 {
     match pairs.get(at) {
         None => at,

@@ -1,69 +1,69 @@
 //! The walk over two maps that cuts the keys into pieces: the ranges of keys on each of which what
 //! holds a key, in either map, stays the same.
-ghost use Rattle.std.specs.Prelude.{◌≡◌, ◌+◌, ◌*◌, ◌<◌, ◌≤◌, ℤ, ◌≤ℤ◌};
-ghost use Rattle.std.specs.Prelude.{List, None, IfSome, IfNone, length};
-ghost use Rattle.std.specs.Int.{int_min};
-ghost use Rattle.number_line.specs.Pieces.{in_either};
+ghost use Rattle.std.specs.Prelude.{◌≡◌, ◌+◌, ◌*◌, ◌≤◌, ℤ, pos, ◌+ℤ◌, ◌≤ℤ◌};
+ghost use Rattle.std.specs.Prelude.{◌||◌, is_some, Some, IfSome, IfNone, length};
+ghost use Rattle.std.specs.Int.{int_min, int_max};
+ghost use Rattle.std.specs.Option.{option_copied};
+ghost use Rattle.number_line.specs.Pieces.{in_either, in_first, in_both, value_in};
 ghost use Rattle.number_line.specs.Valued.{IsCanonicalMap};
+ghost use Rattle.number_line.proofs.PieceLemmas.{EndsFrom};
 ghost use Rattle.range_map.specs.Valued.{pairs_in_numbers};
-ghost use Rattle.blaze_joins.specs.WalkView.{first_holder, first_end, ranges_behind};
-ghost use Rattle.blaze_joins.specs.WalkView.{pair_in, holders_of, next_number};
-ghost use Rattle.blaze_joins.specs.WalkView.{IsWalkOf, IsNextOf, pieces_to_come};
+ghost use Rattle.blaze_joins.specs.PlaceView.{pairs_from, ranges_behind};
+ghost use Rattle.blaze_joins.specs.WalkView.{first_holder, first_end, next_number};
+ghost use Rattle.blaze_joins.specs.WalkView.{IsWalk, IsWalkAt, IsMeeting, pieces_to_come};
+ghost use Rattle.blaze_joins.specs.WalkView.{IsNextOf, NoneIsNext};
 
+use crate::places::{place_behind, place_from};
 use element_core::{Element, is_below};
 use range_map::Range;
 
-/// A range of keys, and the pairs of the two maps that hold each of them.
+/// A range of keys, and the values that each of them has in the two maps.
 #[derive(Drop)]
-pub(crate) struct Piece<'a, 'b, T: Element, V, W> {
+pub(crate) struct Piece<T: Element, L, R> {
     pub(crate) range: Range<T>,
-    pub(crate) left: Option<&'a (Range<T>, V)>,
-    pub(crate) right: Option<&'b (Range<T>, W)>,
+    pub(crate) left: L,
+    pub(crate) right: R,
 }
 
-impl<T: Element, V, W> Piece<'_, '_, T, V, W> {
-    // Returns whether a pair of either map holds the keys.
-    #[inline]
-    pub(crate) fn is_held(&self) -> bool
-        ensures { result ≡ in_either (holders_of T.numbers self.now) }
-    {
-        self.left.is_some() || self.right.is_some()
-    }
-}
-
-/// The pair that holds some keys, and the last key up to which it does.
+/// The value of some keys, or `None` where they have none, and the last key up to which that stays.
 #[derive(Drop)]
 struct Holder<'a, T: Element, V> {
-    pair: Option<&'a (Range<T>, V)>,
+    value: Option<&'a V>,
     end: T,
 }
 
 /// Where a walk over two maps stands.
 #[derive(Drop)]
 pub(crate) struct Walk<'a, 'b, T: Element, V: Eq, W: Eq> {
-    /// The pairs of the left map that end at the next key or behind it.
     left: &'a [(Range<T>, V)],
-    /// Those of the right one.
+    /// The place of the first pair of the left map that ends at the next key or behind it.
+    left_place: usize,
     right: &'b [(Range<T>, W)],
+    /// The same of the right map.
+    right_place: usize,
     /// The next key, or `None` behind the last.
     start: Option<T>,
 }
 
-// Returns what holds the key `start`, of pairs that end there or behind it, and the last key up to
-// which that stays.
+// Returns what holds the key `start`, of the pairs from the place `at` on, which end there or
+// behind it.
 #[inline]
-fn holder_from<'a, T: Element, V: Eq>(pairs: &'a [(Range<T>, V)], start: T) -> Holder<'a, T, V>
+fn holder_from<'a, T: Element, V: Eq>(
+    pairs: &'a [(Range<T>, V)],
+    at: usize,
+    start: T,
+) -> Holder<'a, T, V>
     ensures is_value { T.numbers.IsValue result.end }
     ensures end { T.numbers.number result.end
         ≡ first_end T.numbers.greatest (T.numbers.number start)
-        (pairs_in_numbers T.numbers pairs.now) }
-    ensures pair { pair_in T.numbers result.pair
-        ≡ first_holder (T.numbers.number start) (pairs_in_numbers T.numbers pairs.now) }
+        (pairs_from T.numbers at pairs.now) }
+    ensures value { option_copied result.value ≡ value_in
+        (first_holder (T.numbers.number start) (pairs_from T.numbers at pairs.now)) }
 {
     start.in_type();
-    match pairs.first() {
+    match pairs.get(at) {
         None => Holder {
-            pair: None,
+            value: None,
             end: T::max_value(),
         },
         Some(first) => {
@@ -72,34 +72,16 @@ fn holder_from<'a, T: Element, V: Eq>(pairs: &'a [(Range<T>, V)], start: T) -> H
                 let end = first.0.end();
                 end.in_type();
                 return Holder {
-                    pair: Some(first),
+                    value: Some(&first.1),
                     end,
                 };
             }
             match from.predecessor() {
                 None => Holder {
-                    pair: None,
+                    value: None,
                     end: start,
                 },
-                Some(end) => Holder { pair: None, end },
-            }
-        }
-    }
-}
-
-// Returns the pairs that end behind the key `end`, of pairs that end there or behind it.
-#[inline]
-fn pairs_behind<'a, T: Element, V: Eq>(pairs: &'a [(Range<T>, V)], end: T) -> &'a [(Range<T>, V)]
-    ensures { pairs_in_numbers T.numbers result.now
-        ≡ ranges_behind (T.numbers.number end) (pairs_in_numbers T.numbers pairs.now) }
-{
-    match pairs.split_first() {
-        None => pairs,
-        Some((first, behind)) => {
-            if is_below(end, first.0.end()) {
-                pairs
-            } else {
-                behind
+                Some(end) => Holder { value: None, end },
             }
         }
     }
@@ -118,6 +100,23 @@ pub(crate) fn lesser<T: Element>(a: T, b: T) -> T
     if is_below(b, a) { b } else { a }
 }
 
+// Returns the greater one.
+#[inline]
+fn greater<T: Element>(a: T, b: T) -> T
+    ensures { T.numbers.number result ≡ int_max (T.numbers.number a) (T.numbers.number b) }
+{
+    if is_below(a, b) { b } else { a }
+}
+
+// Returns whether there is a value on either side.
+#[inline]
+fn is_on_either<V, W>(left: Option<&V>, right: Option<&W>) -> bool
+    ensures { result ≡ (is_some (option_copied left.entry)
+        || is_some (option_copied right.entry)) }
+{
+    left.is_some() || right.is_some()
+}
+
 impl<'a, 'b, T: Element, V: Eq, W: Eq> Walk<'a, 'b, T, V, W> {
     // Returns the walk over the pairs of two maps, at the least key.
     pub(crate) fn new(left: &'a [(Range<T>, V)], right: &'b [(Range<T>, W)]) -> Self
@@ -125,43 +124,133 @@ impl<'a, 'b, T: Element, V: Eq, W: Eq> Walk<'a, 'b, T, V, W> {
             (pairs_in_numbers T.numbers left.now) }
         requires right { IsCanonicalMap W.eq T.numbers.least T.numbers.greatest
             (pairs_in_numbers T.numbers right.now) }
-        ensures walk { IsWalkOf T.numbers V.eq W.eq (pairs_in_numbers T.numbers left.now)
-            (pairs_in_numbers T.numbers right.now) result }
+        ensures left { result.left.now ≡ left.now }
+        ensures right { result.right.now ≡ right.now }
+        ensures walk { IsWalk T.numbers V.eq W.eq result }
+        ensures meeting { IsMeeting T.numbers result }
         ensures start { next_number T.numbers result.start ≡ T.numbers.least }
         ensures most { pieces_to_come T.numbers result
             ≤ 1 + (2 * length left.now + 2 * length right.now) }
     {
+        let start = T::min_value();
+        start.in_type();
         Walk {
             left,
+            left_place: 0,
             right,
-            start: Some(T::min_value()),
+            right_place: 0,
+            start: Some(start),
         }
     }
 
-    // Goes on behind the next piece and returns it, or returns `None` behind the last. O(1) time.
+    // Goes on behind the key `end`, before which no pair ends that is still to come.
     #[inline]
-    pub(crate) fn next(&mut self) -> Option<Piece<'a, 'b, T, V, W>>
-        requires { (a : List ((ℤ × ℤ) × V)) × (b : List ((ℤ × ℤ) × W))
-            × IsWalkOf T.numbers V.eq W.eq a b self.old }
-        ensures piece { IfSome result (λ piece. (a : List ((ℤ × ℤ) × V))
-            (b : List ((ℤ × ℤ) × W)) → IsWalkOf T.numbers V.eq W.eq a b self.old
-            → IsNextOf T.numbers V.eq W.eq a b self.old piece self.new) }
-        ensures fewer { IfSome result (λ piece.
-            pieces_to_come T.numbers self.new < pieces_to_come T.numbers self.old) }
-        ensures done { IfNone result (self.old.start ≡ None) }
+    fn go_behind(&mut self, end: T)
+        requires at { (n : ℤ) × (n ≤ℤ T.numbers.number end)
+            × IsWalkAt T.numbers V.eq W.eq n self.old }
+        requires left { EndsFrom (T.numbers.number end)
+            (pairs_from T.numbers self.old.left_place self.old.left.now) }
+        requires right { EndsFrom (T.numbers.number end)
+            (pairs_from T.numbers self.old.right_place self.old.right.now) }
+        ensures same_left { self.new.left ≡ self.old.left }
+        ensures same_right { self.new.right ≡ self.old.right }
+        ensures walk { IsWalk T.numbers V.eq W.eq self.new }
+        ensures start { next_number T.numbers self.new.start
+            ≡ T.numbers.number end +ℤ pos 1 }
+        ensures left { pairs_from T.numbers self.new.left_place self.new.left.now
+            ≡ ranges_behind (T.numbers.number end)
+            (pairs_from T.numbers self.old.left_place self.old.left.now) }
+        ensures right { pairs_from T.numbers self.new.right_place self.new.right.now
+            ≡ ranges_behind (T.numbers.number end)
+            (pairs_from T.numbers self.old.right_place self.old.right.now) }
     {
-        let start = self.start?;
-        start.in_type();
-        let on_left = holder_from(self.left, start);
-        let on_right = holder_from(self.right, start);
-        let end = lesser(on_left.end, on_right.end);
-        self.left = pairs_behind(self.left, end);
-        self.right = pairs_behind(self.right, end);
+        end.in_type();
+        self.left_place = place_behind(self.left, self.left_place, end);
+        self.right_place = place_behind(self.right, self.right_place, end);
         self.start = end.successor();
+    }
+
+    // Goes on behind the next piece that has a value in either map and returns it, or returns
+    // `None` where none comes. O(1) time.
+    #[inline]
+    pub(crate) fn next_of_either(&mut self) -> Option<Piece<T, Option<&'a V>, Option<&'b W>>>
+        requires walk { IsWalk T.numbers V.eq W.eq self.old }
+        ensures same_left { self.new.left ≡ self.old.left }
+        ensures same_right { self.new.right ≡ self.old.right }
+        ensures walk { IsWalk T.numbers V.eq W.eq self.new }
+        ensures piece { IfSome result (λ piece. IsNextOf T.numbers in_either self.old piece.range
+            (option_copied piece.left, option_copied piece.right) self.new) }
+        ensures none { IfNone result (NoneIsNext T.numbers in_either self.old) }
+    {
+        'pieces: loop {
+            let start = self.start?;
+            start.in_type();
+            let left = holder_from(self.left, self.left_place, start);
+            let right = holder_from(self.right, self.right_place, start);
+            let end = lesser(left.end, right.end);
+            self.go_behind(end);
+            if is_on_either(left.value, right.value) {
+                return Some(Piece {
+                    range: Range::new(start, end),
+                    left: left.value,
+                    right: right.value,
+                });
+            }
+        }
+    }
+
+    // The same of the next piece that has a value in the left map. O(k) time where k pairs of the
+    // right map end before it.
+    #[inline]
+    pub(crate) fn next_of_left(&mut self) -> Option<Piece<T, &'a V, Option<&'b W>>>
+        requires walk { IsWalk T.numbers V.eq W.eq self.old }
+        ensures same_left { self.new.left ≡ self.old.left }
+        ensures same_right { self.new.right ≡ self.old.right }
+        ensures walk { IsWalk T.numbers V.eq W.eq self.new }
+        ensures piece { IfSome result (λ piece. IsNextOf T.numbers in_first self.old piece.range
+            (Some piece.left.now, option_copied piece.right) self.new) }
+        ensures none { IfNone result (NoneIsNext T.numbers in_first self.old) }
+    {
+        let pair = self.left.get(self.left_place)?;
+        let start = greater(self.start?, pair.0.start());
+        self.right_place = place_from(self.right, self.right_place, start);
+        let right = holder_from(self.right, self.right_place, start);
+        let end = lesser(pair.0.end(), right.end);
+        self.go_behind(end);
         Some(Piece {
             range: Range::new(start, end),
-            left: on_left.pair,
-            right: on_right.pair,
+            left: &pair.1,
+            right: right.value,
         })
+    }
+
+    // The same of the next piece that has a value in both maps. O(k) time where k pairs end before
+    // it.
+    #[inline]
+    pub(crate) fn next_of_both(&mut self) -> Option<Piece<T, &'a V, &'b W>>
+        requires walk { IsWalk T.numbers V.eq W.eq self.old }
+        requires meeting { IsMeeting T.numbers self.old }
+        ensures same_left { self.new.left ≡ self.old.left }
+        ensures same_right { self.new.right ≡ self.old.right }
+        ensures walk { IsWalk T.numbers V.eq W.eq self.new }
+        ensures meeting { IsMeeting T.numbers self.new }
+        ensures piece { IfSome result (λ piece. IsNextOf T.numbers in_both self.old piece.range
+            (Some piece.left.now, Some piece.right.now) self.new) }
+        ensures none { IfNone result (NoneIsNext T.numbers in_both self.old) }
+    {
+        'pieces: loop {
+            let left = self.left.get(self.left_place)?;
+            let right = self.right.get(self.right_place)?;
+            let start = greater(left.0.start(), right.0.start());
+            let end = lesser(left.0.end(), right.0.end());
+            self.go_behind(end);
+            if !is_below(end, start) {
+                return Some(Piece {
+                    range: Range::new(start, end),
+                    left: &left.1,
+                    right: &right.1,
+                });
+            }
+        }
     }
 }
