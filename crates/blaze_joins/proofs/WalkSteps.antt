@@ -1,5 +1,5 @@
 -- The turns of a walk over two maps, up to a piece that is wanted.
-use Rattle.std.proofs.Common.{◌≡◌, ◌<◌, List, [], ◌∷◌, refl, ap, sym, ◌∙◌, subst, arith}
+use Rattle.std.proofs.Common.{◌≡◌, ◌+◌, ◌<◌, ◌≤◌, ℕ, length, drop, List, [], ◌∷◌, refl, ap, sym, ◌∙◌, subst, arith}
 use Rattle.std.specs.Prelude.{ℤ, pos, ◌+ℤ◌, ◌≤ℤ◌, ◌<ℤ◌, Bool, true, false, ◌&&◌, ◌||◌, is_some, Option, Some, None}
 use Rattle.std.specs.Int.{int_min, int_max}
 use Rattle.std.proofs.lemmas.Int.{ints, by_lt_z}
@@ -7,9 +7,11 @@ use Rattle.element_core.specs.Numbering.{Numbering}
 use Rattle.number_line.specs.Pieces.{Holders, pair_at, holders_at, same_holders, values_of, value_in, in_either, in_first, in_both}
 use Rattle.number_line.proofs.OrderLemmas.{lt_yes, lt_no}
 use Rattle.number_line.proofs.PieceLemmas.{EndsFrom, IsLeft, AreHeld, held_before, left_stays}
+use Rattle.range_map.specs.Valued.{pair_in_numbers, pairs_in_numbers}
+use Rattle.blaze_joins.specs.PlaceView.{pairs_from, ranges_from, ranges_behind}
 use Rattle.blaze_joins.specs.declared.walk.Walk.{Walk}
-use Rattle.blaze_joins.specs.WalkView.{left_of, right_of, first_end, next_number, pieces_to_come, AreUnwanted, IsWalk, IsNextOf, NoneIsNext}
-use Rattle.blaze_joins.proofs.WalkLemmas.{pieces_fewer}
+use Rattle.blaze_joins.specs.WalkView.{left_of, right_of, first_holder, first_end, next_number, pieces_to_come, AreUnwanted, IsWalk, IsNextOf, NoneIsNext, IsWalkAt, IsMeeting}
+use Rattle.blaze_joins.proofs.WalkLemmas.{walk_held, reaches_left, reaches_right, start_low, start_above, left_there, right_there, left_held, left_reaches, end_low, both_above, both_held, end_held, one_begins, pieces_fewer}
 
 -- ---- numbers that have no value
 
@@ -101,6 +103,125 @@ module _ {T V W : Type 0} (numbers : Numbering T) (same : V → V → Bool) (oth
     turn_fewer new m end holders low held goes_on left right = rw (goes_on, left, right)
         (pieces_fewer numbers.greatest (left_of numbers now) (right_of numbers now) (next_number numbers now.start) end (let ordered = held.low in omega (arith, ints)) held.high
         (λ k. subst (λ t. same_holders t (holders_at (left_of numbers now) (right_of numbers now) (end +ℤ pos 1)) ≡ false) (sym (held.holds end held.low (omega (arith, ints)))) (held.stops k)))
+
+-- ---- what a turn finds
+
+module _ {T V W : Type 0} (numbers : Numbering T) (same : V → V → Bool) (other : W → W → Bool) (walk : Walk T V W) (at : IsWalk numbers same other walk) where
+  -- from the next key on, what holds it on each side
+  module _ (key : T) (was : walk.start ≡ Some key) (high : numbers.number key ≤ℤ numbers.greatest) (e f end : ℤ)
+      (left_end : e ≡ first_end numbers.greatest (numbers.number key) (pairs_from numbers walk.left_place walk.left.now))
+      (right_end : f ≡ first_end numbers.greatest (numbers.number key) (pairs_from numbers walk.right_place walk.right.now)) (least : end ≡ int_min e f) where
+    pub key_is : next_number numbers walk.start ≡ numbers.number key
+    key_is = rw was refl
+
+    on_left : IsLeft same numbers.greatest numbers.least (left_of numbers walk) (pairs_from numbers walk.left_place walk.left.now) (numbers.number key)
+    on_left = rw key_is at at.left
+
+    on_right : IsLeft other numbers.greatest numbers.least (right_of numbers walk) (pairs_from numbers walk.right_place walk.right.now) (numbers.number key)
+    on_right = rw key_is at at.right
+
+    pub key_held : AreHeld same_holders (holders_at (left_of numbers walk) (right_of numbers walk)) numbers.greatest (numbers.number key) end (
+      first_holder (numbers.number key) (pairs_from numbers walk.left_place walk.left.now),
+      first_holder (numbers.number key) (pairs_from numbers walk.right_place walk.right.now),
+    )
+    key_held = walk_held same other numbers.least numbers.greatest (numbers.number key) end _ _ _ _ high on_left on_right (rw (left_end, right_end) at least)
+
+    pub key_left : EndsFrom end (pairs_from numbers walk.left_place walk.left.now)
+    key_left = reaches_left same other numbers.least numbers.greatest (numbers.number key) end _ _ _ _ high on_left on_right (rw (left_end, right_end) at least)
+
+    pub key_right : EndsFrom end (pairs_from numbers walk.right_place walk.right.now)
+    key_right = reaches_right same other numbers.least numbers.greatest (numbers.number key) end _ _ _ _ high on_left on_right (rw (left_end, right_end) at least)
+
+  -- from the next key on that the left map has, where the right places go on to
+  module _ (p : (T × T) × V) (there : drop walk.left_place walk.left.now ≡ p ∷ drop (walk.left_place + 1) walk.left.now) (start e end : ℤ) (place : ℕ)
+      (begins : start ≡ int_max (next_number numbers walk.start) (numbers.number p.0.0))
+      (right_from : pairs_from numbers place walk.right.now ≡ ranges_from start (pairs_from numbers walk.right_place walk.right.now))
+      (right_end : e ≡ first_end numbers.greatest start (pairs_from numbers place walk.right.now)) (least : end ≡ int_min (numbers.number p.0.1) e) where
+    pair_first : pairs_from numbers walk.left_place walk.left.now ≡ pair_in_numbers numbers p ∷ pairs_from numbers (walk.left_place + 1) walk.left.now
+    pair_first = ap (pairs_in_numbers numbers) there
+
+    on_pair : IsLeft same numbers.greatest numbers.least (left_of numbers walk) (pair_in_numbers numbers p ∷ pairs_from numbers (walk.left_place + 1) walk.left.now)
+        (next_number numbers walk.start)
+    on_pair = rw pair_first at at.left
+
+    least_is : end ≡ int_min (numbers.number p.0.1) (first_end numbers.greatest start (ranges_from start (pairs_from numbers walk.right_place walk.right.now)))
+    least_is = rw (right_end, right_from) at least
+
+    pub pair_begins : next_number numbers walk.start ≤ℤ start
+    pair_begins = start_low same other numbers.least numbers.greatest _ start end _ _ _ _ _ on_pair at.right begins least_is
+
+    pub pair_above : numbers.least ≤ℤ start
+    pair_above = start_above same other numbers.least numbers.greatest _ start end _ _ _ _ _ on_pair at.right begins least_is
+
+    pub pair_passed : AreUnwanted in_first (holders_at (left_of numbers walk) (right_of numbers walk)) (next_number numbers walk.start) start
+    pair_passed = rw begins (unwanted_before same other numbers.least numbers.greatest _ _ (right_of numbers walk) _ _ on_pair)
+
+    pub pair_held : AreHeld same_holders (holders_at (left_of numbers walk) (right_of numbers walk)) numbers.greatest start end (
+      Some (pair_in_numbers numbers p),
+      first_holder start (pairs_from numbers place walk.right.now),
+    )
+    pair_held = rw right_from (left_held same other numbers.least numbers.greatest _ start end _ _ _ _ _ on_pair at.right begins least_is)
+
+    pub pair_right : EndsFrom end (pairs_from numbers place walk.right.now)
+    pair_right = rw right_from (left_reaches same other numbers.least numbers.greatest _ start end _ _ _ _ _ on_pair at.right begins least_is)
+
+    pub pair_stands : place ≤ length walk.right.now
+        → IsWalkAt numbers same other start record { left = walk.left; left_place = walk.left_place; right = walk.right; right_place = place; start = walk.start }
+    pair_stands within = record {
+      left = rw pair_first (left_there same other numbers.least numbers.greatest _ start end _ _ _ _ _ on_pair at.right begins least_is);
+      right = rw right_from (right_there same other numbers.least numbers.greatest _ start end _ _ _ _ _ on_pair at.right begins least_is);
+      left_within = at.left_within;
+      right_within = within;
+      high = let low = pair_held.low in let most = pair_held.high in omega (arith, ints);
+    }
+
+  -- at the first pairs of both sides
+  module _ (p : (T × T) × V) (q : (T × T) × W) (left_there : drop walk.left_place walk.left.now ≡ p ∷ drop (walk.left_place + 1) walk.left.now)
+      (right_there : drop walk.right_place walk.right.now ≡ q ∷ drop (walk.right_place + 1) walk.right.now) (end : ℤ)
+      (least : end ≡ int_min (numbers.number p.0.1) (numbers.number q.0.1)) where
+    left_first : pairs_from numbers walk.left_place walk.left.now ≡ pair_in_numbers numbers p ∷ pairs_from numbers (walk.left_place + 1) walk.left.now
+    left_first = ap (pairs_in_numbers numbers) left_there
+
+    right_first : pairs_from numbers walk.right_place walk.right.now ≡ pair_in_numbers numbers q ∷ pairs_from numbers (walk.right_place + 1) walk.right.now
+    right_first = ap (pairs_in_numbers numbers) right_there
+
+    on_left_pair : IsLeft same numbers.greatest numbers.least (left_of numbers walk) (pair_in_numbers numbers p ∷ pairs_from numbers (walk.left_place + 1) walk.left.now)
+        (next_number numbers walk.start)
+    on_left_pair = rw left_first at at.left
+
+    on_right_pair : IsLeft other numbers.greatest numbers.least (right_of numbers walk) (pair_in_numbers numbers q ∷ pairs_from numbers (walk.right_place + 1) walk.right.now)
+        (next_number numbers walk.start)
+    on_right_pair = rw right_first at at.right
+
+    pub pairs_low : next_number numbers walk.start ≤ℤ end
+    pairs_low = end_low same other numbers.least numbers.greatest _ end _ _ _ _ _ _ on_left_pair on_right_pair least
+
+    pub pairs_end : AreHeld same_holders (holders_at (left_of numbers walk) (right_of numbers walk)) numbers.greatest end end (
+      first_holder end (pair_in_numbers numbers p ∷ pairs_from numbers (walk.left_place + 1) walk.left.now),
+      first_holder end (pair_in_numbers numbers q ∷ pairs_from numbers (walk.right_place + 1) walk.right.now),
+    )
+    pairs_end = end_held same other numbers.least numbers.greatest _ end _ _ _ _ _ _ on_left_pair on_right_pair least
+
+    pub pairs_meeting : (new : Walk T V W) → next_number numbers new.start ≡ end +ℤ pos 1
+        → pairs_from numbers new.left_place new.left.now ≡ ranges_behind end (pairs_from numbers walk.left_place walk.left.now)
+        → pairs_from numbers new.right_place new.right.now ≡ ranges_behind end (pairs_from numbers walk.right_place walk.right.now) → IsMeeting numbers new
+    pairs_meeting new start left right = rw (start, left, right, left_first, right_first)
+        (one_begins same other numbers.greatest end _ _ least numbers.least _ _ on_left_pair.canonical on_right_pair.canonical)
+
+    pub pairs_passed : AreUnwanted in_both (holders_at (left_of numbers walk) (right_of numbers walk)) (next_number numbers walk.start)
+        (int_max (numbers.number p.0.0) (numbers.number q.0.0))
+    pairs_passed = unwanted_both same other numbers.least numbers.greatest _ _ _ _ _ _ _ on_left_pair on_right_pair
+
+    module _ (meeting : IsMeeting numbers walk) (start : ℤ) (begins : start ≡ int_max (numbers.number p.0.0) (numbers.number q.0.0)) where
+      pub pairs_begin : next_number numbers walk.start ≤ℤ start
+      pairs_begin = rw begins (rw (left_first, right_first) at meeting)
+
+      pub pairs_above : numbers.least ≤ℤ start
+      pairs_above = rw begins (both_above same other numbers.least numbers.greatest _ end _ _ _ _ _ _ on_left_pair on_right_pair least)
+
+      pub pairs_held : start ≤ℤ end → AreHeld same_holders (holders_at (left_of numbers walk) (right_of numbers walk)) numbers.greatest start end
+          (Some (pair_in_numbers numbers p), Some (pair_in_numbers numbers q))
+      pairs_held ordered = both_held same other numbers.least numbers.greatest _ end _ _ _ _ _ _ on_left_pair on_right_pair least start pairs_begin begins ordered
 
 -- ---- where neither map has a value
 

@@ -58,7 +58,7 @@ pub(crate) fn held_from<T: Element, V: Eq>(pairs: &[(Range<T>, V)], at: usize, s
 
 // Returns the first place from `at` on whose pair ends at the key `start` or behind it, or how many
 // pairs there are.
-#[inline]
+#[inline(always)]
 pub(crate) fn place_from<T: Element, V: Eq>(pairs: &[(Range<T>, V)], at: usize, start: T) -> usize
     requires within { at ≤ length pairs.now }
     ensures within { result ≤ length pairs.now }
@@ -77,7 +77,7 @@ pub(crate) fn place_from<T: Element, V: Eq>(pairs: &[(Range<T>, V)], at: usize, 
 
 // Returns the place behind the pairs that end at the key `end`. None of those from the place `at`
 // on ends before it.
-#[inline]
+#[inline(always)]
 pub(crate) fn place_behind<T: Element, V: Eq>(pairs: &[(Range<T>, V)], at: usize, end: T) -> usize
     requires within { at ≤ length pairs.now }
     ensures within { result ≤ length pairs.now }

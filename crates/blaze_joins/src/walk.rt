@@ -47,7 +47,7 @@ pub(crate) struct Walk<'a, 'b, T: Element, V: Eq, W: Eq> {
 
 // Returns what holds the key `start`, of the pairs from the place `at` on, which end there or
 // behind it.
-#[inline]
+#[inline(always)]
 fn holder_from<'a, T: Element, V: Eq>(
     pairs: &'a [(Range<T>, V)],
     at: usize,
@@ -88,7 +88,7 @@ fn holder_from<'a, T: Element, V: Eq>(
 }
 
 // Returns the lesser of two keys, which are values of the type.
-#[inline]
+#[inline(always)]
 pub(crate) fn lesser<T: Element>(a: T, b: T) -> T
     ensures is_value { T.numbers.IsValue result }
     ensures left { T.numbers.number result ≤ℤ T.numbers.number a }
@@ -101,7 +101,7 @@ pub(crate) fn lesser<T: Element>(a: T, b: T) -> T
 }
 
 // Returns the greater one.
-#[inline]
+#[inline(always)]
 fn greater<T: Element>(a: T, b: T) -> T
     ensures { T.numbers.number result ≡ int_max (T.numbers.number a) (T.numbers.number b) }
 {
@@ -109,7 +109,7 @@ fn greater<T: Element>(a: T, b: T) -> T
 }
 
 // Returns whether there is a value on either side.
-#[inline]
+#[inline(always)]
 fn is_on_either<V, W>(left: Option<&V>, right: Option<&W>) -> bool
     ensures { result ≡ (is_some (option_copied left.entry)
         || is_some (option_copied right.entry)) }
@@ -144,7 +144,7 @@ impl<'a, 'b, T: Element, V: Eq, W: Eq> Walk<'a, 'b, T, V, W> {
     }
 
     // Goes on behind the key `end`, before which no pair ends that is still to come.
-    #[inline]
+    #[inline(always)]
     fn go_behind(&mut self, end: T)
         requires at { (n : ℤ) × (n ≤ℤ T.numbers.number end)
             × IsWalkAt T.numbers V.eq W.eq n self.old }
@@ -172,7 +172,7 @@ impl<'a, 'b, T: Element, V: Eq, W: Eq> Walk<'a, 'b, T, V, W> {
 
     // Goes on behind the next piece that has a value in either map and returns it, or returns
     // `None` where none comes. O(1) time.
-    #[inline]
+    #[inline(always)]
     pub(crate) fn next_of_either(&mut self) -> Option<Piece<T, Option<&'a V>, Option<&'b W>>>
         requires walk { IsWalk T.numbers V.eq W.eq self.old }
         ensures same_left { self.new.left ≡ self.old.left }
@@ -201,7 +201,7 @@ impl<'a, 'b, T: Element, V: Eq, W: Eq> Walk<'a, 'b, T, V, W> {
 
     // The same of the next piece that has a value in the left map. O(k) time where k pairs of the
     // right map end before it.
-    #[inline]
+    #[inline(always)]
     pub(crate) fn next_of_left(&mut self) -> Option<Piece<T, &'a V, Option<&'b W>>>
         requires walk { IsWalk T.numbers V.eq W.eq self.old }
         ensures same_left { self.new.left ≡ self.old.left }
@@ -226,7 +226,7 @@ impl<'a, 'b, T: Element, V: Eq, W: Eq> Walk<'a, 'b, T, V, W> {
 
     // The same of the next piece that has a value in both maps. O(k) time where k pairs end before
     // it.
-    #[inline]
+    #[inline(always)]
     pub(crate) fn next_of_both(&mut self) -> Option<Piece<T, &'a V, &'b W>>
         requires walk { IsWalk T.numbers V.eq W.eq self.old }
         requires meeting { IsMeeting T.numbers self.old }
