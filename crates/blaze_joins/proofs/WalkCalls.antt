@@ -3,7 +3,7 @@ use Rattle.std.proofs.Common.{◌≡◌, ◌+◌, ◌<◌, ◌≤◌, List, [], 
 use Rattle.std.specs.Prelude.{ℤ, pos, ◌+ℤ◌, ◌-ℤ◌, ◌≤ℤ◌, ◌<ℤ◌, Bool, true, false, ◌&&◌, Option, Some, None}
 use Rattle.std.proofs.lemmas.Int.{ints, by_lt_z}
 use Rattle.element_core.specs.Numbering.{Numbering}
-use Rattle.number_line.specs.Pieces.{Holders, holders_at, same_holder, same_holders, in_either, in_first, in_both, chosen, IsJoin}
+use Rattle.number_line.specs.Pieces.{Holders, holders_at, same_holder, same_holders, in_either, in_first, in_both, IsJoin}
 use Rattle.number_line.proofs.PieceLemmas.{AreHeld, AreCutTo, with_piece, cut_further, end_before-raise, none_behind}
 use Rattle.number_line.proofs.JoinWalk.{IsJoinedTo, joined_first, joined_call, joined_all}
 use Rattle.range_map.specs.Making.{Making}

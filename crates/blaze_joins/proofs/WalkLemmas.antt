@@ -1,13 +1,11 @@
 -- A walk over two lists: the next piece, and how many may come.
-use Rattle.std.proofs.Common.{◌≡◌, ◌+◌, ◌*◌, ◌<◌, ◌≤◌, ℕ, List, [], ◌∷◌, length, refl, ap, sym, arith, ◌∙◌}
+use Rattle.std.proofs.Common.{◌≡◌, ◌+◌, ◌*◌, ◌<◌, ◌≤◌, List, [], ◌∷◌, length, refl, ap, sym, arith, ◌∙◌}
 use Rattle.std.specs.Prelude.{ℤ, pos, ◌+ℤ◌, ◌≤ℤ◌, ◌<ℤ◌, Bool, true, false, ◌&&◌, if◌then◌else◌, int_lt, Option, Some, None, IfSome, IsNone, ◌↔◌}
 use Rattle.std.specs.Int.{int_min, int_max}
-use Rattle.std.specs.Ordering.{int_eq}
 use Rattle.std.proofs.lemmas.Int.{ints, by_lt_z}
 use Rattle.element_core.specs.Numbering.{Numbering}
-use Rattle.number_line.specs.Ranges.{lies_in}
 use Rattle.number_line.specs.Valued.{IsCanonicalMap}
-use Rattle.number_line.specs.Pieces.{Holders, pair_at, holders_at, same_holder, same_holders}
+use Rattle.number_line.specs.Pieces.{pair_at, holders_at, same_holder, same_holders}
 use Rattle.number_line.proofs.OrderLemmas.{lt_yes, lt_no}
 use Rattle.number_line.proofs.PieceLemmas.{EndsFrom, ends_from-lower, IsHeld, IsLeft, AreHeld, held_both, held_by_none, held_before, held_by_first, left_stays}
 use Rattle.number_line.proofs.ValuedLemmas.{inside, before, behind}

@@ -5,8 +5,7 @@ use Rattle.std.specs.Int.{int_min, int_max}
 use Rattle.std.proofs.lemmas.Int.{ints, by_lt_z}
 use Rattle.element_core.specs.Numbering.{Numbering}
 use Rattle.number_line.specs.Pieces.{Holders, pair_at, holders_at, same_holders, values_of, value_in, in_either, in_first, in_both}
-use Rattle.number_line.proofs.OrderLemmas.{lt_yes, lt_no}
-use Rattle.number_line.proofs.PieceLemmas.{EndsFrom, IsLeft, AreHeld, held_before, left_stays}
+use Rattle.number_line.proofs.PieceLemmas.{EndsFrom, IsLeft, AreHeld, held_before}
 use Rattle.range_map.specs.Valued.{pair_in_numbers, pairs_in_numbers}
 use Rattle.blaze_joins.specs.PlaceView.{pairs_from, ranges_from, ranges_behind}
 use Rattle.blaze_joins.specs.declared.walk.Walk.{Walk}

@@ -1,5 +1,5 @@
 -- The pairs of a map by their places.
-use Rattle.std.specs.Prelude.{ℕ, ℤ, Bool, int_lt, if◌then◌else◌, List, [], ◌∷◌, Option, Some, None, slice_get, drop}
+use Rattle.std.specs.Prelude.{ℕ, ℤ, int_lt, if◌then◌else◌, List, [], ◌∷◌, Option, Some, None, slice_get, drop}
 use Rattle.element_core.specs.Numbering.{Numbering}
 use Rattle.range_map.specs.Valued.{pairs_in_numbers}
 

@@ -31,8 +31,8 @@ returns-then-is_on_either-clause-piece g c =
     let is = key_is numbers g.V.PartialEq.eq g.W.PartialEq.eq c.pieces.self c.pieces.invariant.stands c.in_ok-start.start c.in_ok-start.was c.in_type.ensures.high _ _ _ c.holder_from-left.ensures.end c.holder_from-right.ensures.end c.lesser-end.ensures.either in
     let held = key_held numbers g.V.PartialEq.eq g.W.PartialEq.eq c.pieces.self c.pieces.invariant.stands c.in_ok-start.start c.in_ok-start.was c.in_type.ensures.high _ _ _ c.holder_from-left.ensures.end c.holder_from-right.ensures.end c.lesser-end.ensures.either in
     let shows : (option_copied c.holder_from-left.result.value, option_copied c.holder_from-right.result.value) ≡ values_of (
-    first_holder (numbers.number c.in_ok-start.start) (pairs_from numbers c.pieces.self.left_place c.pieces.self.left.now),
-    first_holder (numbers.number c.in_ok-start.start) (pairs_from numbers c.pieces.self.right_place c.pieces.self.right.now),
+      first_holder (numbers.number c.in_ok-start.start) (pairs_from numbers c.pieces.self.left_place c.pieces.self.left.now),
+      first_holder (numbers.number c.in_ok-start.start) (pairs_from numbers c.pieces.self.right_place c.pieces.self.right.now),
     ) = λ i. (c.holder_from-left.ensures.value i, c.holder_from-right.ensures.value i) in
     rw c.new.ensures.value
     (passed_next numbers g.V.PartialEq.eq g.W.PartialEq.eq in_either _ c.pieces.self c.pieces.invariant c.go_behind.new.self _ _ _ c.in_type.ensures.low (omega (arith, ints, is))
@@ -51,8 +51,8 @@ pieces-preserved g c =
     let is = key_is numbers g.V.PartialEq.eq g.W.PartialEq.eq c.pieces.self c.pieces.invariant.stands c.in_ok-start.start c.in_ok-start.was c.in_type.ensures.high _ _ _ c.holder_from-left.ensures.end c.holder_from-right.ensures.end c.lesser-end.ensures.either in
     let held = key_held numbers g.V.PartialEq.eq g.W.PartialEq.eq c.pieces.self c.pieces.invariant.stands c.in_ok-start.start c.in_ok-start.was c.in_type.ensures.high _ _ _ c.holder_from-left.ensures.end c.holder_from-right.ensures.end c.lesser-end.ensures.either in
     let shows : (option_copied c.holder_from-left.result.value, option_copied c.holder_from-right.result.value) ≡ values_of (
-    first_holder (numbers.number c.in_ok-start.start) (pairs_from numbers c.pieces.self.left_place c.pieces.self.left.now),
-    first_holder (numbers.number c.in_ok-start.start) (pairs_from numbers c.pieces.self.right_place c.pieces.self.right.now),
+      first_holder (numbers.number c.in_ok-start.start) (pairs_from numbers c.pieces.self.left_place c.pieces.self.left.now),
+      first_holder (numbers.number c.in_ok-start.start) (pairs_from numbers c.pieces.self.right_place c.pieces.self.right.now),
     ) = λ i. (c.holder_from-left.ensures.value i, c.holder_from-right.ensures.value i) in
     passed_on numbers g.V.PartialEq.eq g.W.PartialEq.eq in_either _ c.pieces.self c.pieces.invariant c.go_behind.new.self (numbers.number c.lesser-end.result) (rw is held.low)
     (rw is (none_either _ _ _ shows _ _ _ _ held (sym c.if-is_on_either.ensures))) c.go_behind.ensures.start c.go_behind.ensures.same_left c.go_behind.ensures.same_right c.go_behind.ensures.walk

@@ -13,9 +13,11 @@ go_behind-requires-clause-at g c =
     let there = drop_there c.args.self.now.left.now c.args.self.now.left_place c.in_ok-pair.pair.now c.in_ok-pair.ensures.lookup.3.0 c.in_ok-pair.ensures.lookup.1 in
     let begins : numbers.number c.greater-start.result ≡ int_max (next_number numbers c.args.self.now.start) (numbers.number c.in_ok-pair.pair.now.0.0) =
     rw (c.in_ok-self.was, ← c.start.ensures.value) c.greater-start.ensures in
-    let least = rw c.end.ensures.value at c.lesser-end.ensures.either in
-    (_, (pair_held numbers g.V.PartialEq.eq g.W.PartialEq.eq c.args.self.now c.requires.walk _ there _ _ _ _ begins c.place_from-self.ensures.pairs c.holder_from-right.ensures.end least).low,
-    pair_stands numbers g.V.PartialEq.eq g.W.PartialEq.eq c.args.self.now c.requires.walk _ there _ _ _ _ begins c.place_from-self.ensures.pairs c.holder_from-right.ensures.end least c.place_from-self.ensures.within)
+    let least = rw c.end.ensures.value at c.lesser-end.ensures.either in (
+      _,
+      (pair_held numbers g.V.PartialEq.eq g.W.PartialEq.eq c.args.self.now c.requires.walk _ there _ _ _ _ begins c.place_from-self.ensures.pairs c.holder_from-right.ensures.end least).low,
+      pair_stands numbers g.V.PartialEq.eq g.W.PartialEq.eq c.args.self.now c.requires.walk _ there _ _ _ _ begins c.place_from-self.ensures.pairs c.holder_from-right.ensures.end least c.place_from-self.ensures.within,
+    )
 
 pub go_behind-requires-clause-right : goal.go_behind-requires-clause-right
 go_behind-requires-clause-right g c =
