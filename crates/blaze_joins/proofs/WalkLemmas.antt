@@ -16,10 +16,16 @@ use Rattle.blaze_joins.specs.WalkView.{first_holder, first_end, bounds_from, pie
 
 -- ---- the lesser and the greater of two numbers
 
+pub max_left_is : (a b : ℤ) → b ≤ℤ a → a ≡ int_max a b
+max_left_is a b h = grind (arith, ints)
+
+pub max_right_is : (a b : ℤ) → a ≤ℤ b → b ≡ int_max a b
+max_right_is a b h = grind (arith, ints)
+
 max_left : (a b : ℤ) → a ≤ℤ int_max a b
 max_left a b = grind (arith, ints)
 
-max_right : (a b : ℤ) → b ≤ℤ int_max a b
+pub max_right : (a b : ℤ) → b ≤ℤ int_max a b
 max_right a b = grind (arith, ints)
 
 max_above : (a b c : ℤ) → a ≤ℤ c → b ≤ℤ c → int_max a b ≤ℤ c
@@ -71,8 +77,8 @@ module _ {V W : Type 0} (same : V → V → Bool) (other : W → W → Bool) (lo
 first_end_from : {V : Type 0} (hi n : ℤ) (p : (ℤ × ℤ) × V) (rest : List ((ℤ × ℤ) × V)) → n ≤ℤ p.0.1 → n ≤ℤ first_end hi n (p ∷ rest)
 first_end_from hi n p rest h = by_lt_z n p.0.0 (λ k. rw (lt_yes n p.0.0 k) (omega (arith, ints))) (λ k. rw (lt_no n p.0.0 k) h)
 
-module _ {V W : Type 0} (same : V → V → Bool) (other : W → W → Bool) (lo hi n start end : ℤ) (a rest : List ((ℤ × ℤ) × V)) (p : (ℤ × ℤ) × V)
-    (b right : List ((ℤ × ℤ) × W)) (on_left : IsLeft same hi lo a (p ∷ rest) n) (on_right : IsLeft other hi lo b right n)
+module _ {V W : Type 0} (same : V → V → Bool) (other : W → W → Bool) (lo hi n m start end : ℤ) (a rest : List ((ℤ × ℤ) × V)) (p : (ℤ × ℤ) × V)
+    (b right : List ((ℤ × ℤ) × W)) (on_left : IsLeft same hi lo a (p ∷ rest) n) (lag : m ≤ℤ n) (on_right : IsLeft other hi lo b right m)
     (begins : start ≡ int_max n p.0.0) (least : end ≡ int_min p.0.1 (first_end hi start (ranges_from start right))) where
   pub start_low : n ≤ℤ start
   start_low = rw begins (max_left n p.0.0)
@@ -87,7 +93,7 @@ module _ {V W : Type 0} (same : V → V → Bool) (other : W → W → Bool) (lo
   left_there = left_stays same hi lo a (p ∷ rest) n start start_low on_left within
 
   pub right_there : IsLeft other hi lo b (ranges_from start right) start
-  right_there = left_from other lo hi b n start right start_low on_right
+  right_there = left_from other lo hi b m start right (let low = start_low in omega (arith, ints)) on_right
 
   least_there : end ≡ int_min (first_end hi start (p ∷ rest)) (first_end hi start (ranges_from start right))
   least_there = rw (lt_no start p.0.0 begun) least

@@ -10,7 +10,7 @@ use Rattle.range_map.specs.Valued.{pair_in_numbers, pairs_in_numbers}
 use Rattle.blaze_joins.specs.PlaceView.{pairs_from, ranges_from, ranges_behind}
 use Rattle.blaze_joins.specs.declared.walk.Walk.{Walk}
 use Rattle.blaze_joins.specs.WalkView.{left_of, right_of, first_holder, first_end, next_number, pieces_to_come, AreUnwanted, IsWalk, IsNextOf, NoneIsNext, IsWalkAt, IsMeeting}
-use Rattle.blaze_joins.proofs.WalkLemmas.{walk_held, reaches_left, reaches_right, start_low, start_above, left_there, right_there, left_held, left_reaches, end_low, both_above, both_held, end_held, one_begins, pieces_fewer}
+use Rattle.blaze_joins.proofs.WalkLemmas.{walk_held, reaches_left, reaches_right, end_low, both_above, both_held, end_held, one_begins, pieces_fewer}
 
 -- ---- numbers that have no value
 
@@ -130,49 +130,6 @@ module _ {T V W : Type 0} (numbers : Numbering T) (same : V → V → Bool) (oth
 
     pub key_right : EndsFrom end (pairs_from numbers walk.right_place walk.right.now)
     key_right = reaches_right same other numbers.least numbers.greatest (numbers.number key) end _ _ _ _ high on_left on_right (rw (left_end, right_end) at least)
-
-  -- from the next key on that the left map has, where the right places go on to
-  module _ (p : (T × T) × V) (there : drop walk.left_place walk.left.now ≡ p ∷ drop (walk.left_place + 1) walk.left.now) (start e end : ℤ) (place : ℕ)
-      (begins : start ≡ int_max (next_number numbers walk.start) (numbers.number p.0.0))
-      (right_from : pairs_from numbers place walk.right.now ≡ ranges_from start (pairs_from numbers walk.right_place walk.right.now))
-      (right_end : e ≡ first_end numbers.greatest start (pairs_from numbers place walk.right.now)) (least : end ≡ int_min (numbers.number p.0.1) e) where
-    pair_first : pairs_from numbers walk.left_place walk.left.now ≡ pair_in_numbers numbers p ∷ pairs_from numbers (walk.left_place + 1) walk.left.now
-    pair_first = ap (pairs_in_numbers numbers) there
-
-    on_pair : IsLeft same numbers.greatest numbers.least (left_of numbers walk) (pair_in_numbers numbers p ∷ pairs_from numbers (walk.left_place + 1) walk.left.now)
-        (next_number numbers walk.start)
-    on_pair = rw pair_first at at.left
-
-    least_is : end ≡ int_min (numbers.number p.0.1) (first_end numbers.greatest start (ranges_from start (pairs_from numbers walk.right_place walk.right.now)))
-    least_is = rw (right_end, right_from) at least
-
-    pub pair_begins : next_number numbers walk.start ≤ℤ start
-    pair_begins = start_low same other numbers.least numbers.greatest _ start end _ _ _ _ _ on_pair at.right begins least_is
-
-    pub pair_above : numbers.least ≤ℤ start
-    pair_above = start_above same other numbers.least numbers.greatest _ start end _ _ _ _ _ on_pair at.right begins least_is
-
-    pub pair_passed : AreUnwanted in_first (holders_at (left_of numbers walk) (right_of numbers walk)) (next_number numbers walk.start) start
-    pair_passed = rw begins (unwanted_before same other numbers.least numbers.greatest _ _ (right_of numbers walk) _ _ on_pair)
-
-    pub pair_held : AreHeld same_holders (holders_at (left_of numbers walk) (right_of numbers walk)) numbers.greatest start end (
-      Some (pair_in_numbers numbers p),
-      first_holder start (pairs_from numbers place walk.right.now),
-    )
-    pair_held = rw right_from (left_held same other numbers.least numbers.greatest _ start end _ _ _ _ _ on_pair at.right begins least_is)
-
-    pub pair_right : EndsFrom end (pairs_from numbers place walk.right.now)
-    pair_right = rw right_from (left_reaches same other numbers.least numbers.greatest _ start end _ _ _ _ _ on_pair at.right begins least_is)
-
-    pub pair_stands : place ≤ length walk.right.now
-        → IsWalkAt numbers same other start record { left = walk.left; left_place = walk.left_place; right = walk.right; right_place = place; start = walk.start }
-    pair_stands within = record {
-      left = rw pair_first (left_there same other numbers.least numbers.greatest _ start end _ _ _ _ _ on_pair at.right begins least_is);
-      right = rw right_from (right_there same other numbers.least numbers.greatest _ start end _ _ _ _ _ on_pair at.right begins least_is);
-      left_within = at.left_within;
-      right_within = within;
-      high = let low = pair_held.low in let most = pair_held.high in omega (arith, ints);
-    }
 
   -- at the first pairs of both sides
   module _ (p : (T × T) × V) (q : (T × T) × W) (left_there : drop walk.left_place walk.left.now ≡ p ∷ drop (walk.left_place + 1) walk.left.now)

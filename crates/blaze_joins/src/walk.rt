@@ -1,10 +1,10 @@
 //! The walk over two maps that cuts the keys into pieces: the ranges of keys on each of which what
 //! holds a key, in either map, stays the same.
-ghost use Rattle.std.specs.Prelude.{◌≡◌, ◌+◌, ◌*◌, ◌≤◌, ℤ, pos, ◌+ℤ◌, ◌≤ℤ◌};
+ghost use Rattle.std.specs.Prelude.{◌≡◌, ◌+◌, ◌*◌, ◌≤◌, ℤ, pos, ◌+ℤ◌, ◌≤ℤ◌, ◌<ℤ◌};
 ghost use Rattle.std.specs.Prelude.{◌||◌, is_some, Some, IfSome, IfNone, length};
 ghost use Rattle.std.specs.Int.{int_min, int_max};
 ghost use Rattle.std.specs.Option.{option_copied};
-ghost use Rattle.number_line.specs.Pieces.{in_either, in_first, in_both, value_in};
+ghost use Rattle.number_line.specs.Pieces.{in_either, in_both, value_in};
 ghost use Rattle.number_line.specs.Valued.{IsCanonicalMap};
 ghost use Rattle.number_line.proofs.PieceLemmas.{EndsFrom};
 ghost use Rattle.range_map.specs.Valued.{pairs_in_numbers};
@@ -13,7 +13,7 @@ ghost use Rattle.blaze_joins.specs.WalkView.{first_holder, first_end, next_numbe
 ghost use Rattle.blaze_joins.specs.WalkView.{IsWalk, IsWalkAt, IsMeeting, pieces_to_come};
 ghost use Rattle.blaze_joins.specs.WalkView.{IsNextOf, NoneIsNext};
 
-use crate::places::{place_behind, place_from};
+use crate::places::place_behind;
 use element_core::{Element, is_below};
 use range_map::Range;
 
@@ -27,9 +27,9 @@ pub(crate) struct Piece<T: Element, L, R> {
 
 /// The value of some keys, or `None` where they have none, and the last key up to which that stays.
 #[derive(Drop)]
-struct Holder<'a, T: Element, V> {
-    value: Option<&'a V>,
-    end: T,
+pub(crate) struct Holder<'a, T: Element, V> {
+    pub(crate) value: Option<&'a V>,
+    pub(crate) end: T,
 }
 
 /// Where a walk over two maps stands.
@@ -48,7 +48,7 @@ pub(crate) struct Walk<'a, 'b, T: Element, V: Eq, W: Eq> {
 // Returns what holds the key `start`, of the pairs from the place `at` on, which end there or
 // behind it.
 #[inline(always)]
-fn holder_from<'a, T: Element, V: Eq>(
+pub(crate) fn holder_from<'a, T: Element, V: Eq>(
     pairs: &'a [(Range<T>, V)],
     at: usize,
     start: T,
@@ -106,6 +106,24 @@ fn greater<T: Element>(a: T, b: T) -> T
     ensures { T.numbers.number result ≡ int_max (T.numbers.number a) (T.numbers.number b) }
 {
     if is_below(a, b) { b } else { a }
+}
+
+// Returns the key behind `end` where it isn't beyond `last`.
+#[inline(always)]
+pub(crate) fn next_within<T: Element>(end: T, last: T) -> Option<T>
+    ensures next { IfSome result
+        (λ key. T.numbers.number key ≡ T.numbers.number end +ℤ pos 1) }
+    ensures within { IfSome result
+        (λ _. T.numbers.number end <ℤ T.numbers.number last) }
+    ensures none { IfNone result (T.numbers.number last ≤ℤ T.numbers.number end) }
+{
+    end.in_type();
+    last.in_type();
+    if is_below(end, last) {
+        end.successor()
+    } else {
+        None
+    }
 }
 
 // Returns whether there is a value on either side.
@@ -197,31 +215,6 @@ impl<'a, 'b, T: Element, V: Eq, W: Eq> Walk<'a, 'b, T, V, W> {
                 });
             }
         }
-    }
-
-    // The same of the next piece that has a value in the left map. O(k) time where k pairs of the
-    // right map end before it.
-    #[inline(always)]
-    pub(crate) fn next_of_left(&mut self) -> Option<Piece<T, &'a V, Option<&'b W>>>
-        requires walk { IsWalk T.numbers V.eq W.eq self.old }
-        ensures same_left { self.new.left ≡ self.old.left }
-        ensures same_right { self.new.right ≡ self.old.right }
-        ensures walk { IsWalk T.numbers V.eq W.eq self.new }
-        ensures piece { IfSome result (λ piece. IsNextOf T.numbers in_first self.old piece.range
-            (Some piece.left.now, option_copied piece.right) self.new) }
-        ensures none { IfNone result (NoneIsNext T.numbers in_first self.old) }
-    {
-        let pair = self.left.get(self.left_place)?;
-        let start = greater(self.start?, pair.0.start());
-        self.right_place = place_from(self.right, self.right_place, start);
-        let right = holder_from(self.right, self.right_place, start);
-        let end = lesser(pair.0.end(), right.end);
-        self.go_behind(end);
-        Some(Piece {
-            range: Range::new(start, end),
-            left: &pair.1,
-            right: right.value,
-        })
     }
 
     // The same of the next piece that has a value in both maps. O(k) time where k pairs end before
