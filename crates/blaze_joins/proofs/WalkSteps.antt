@@ -1,5 +1,5 @@
 -- The turns of a walk over two maps, up to a piece that is wanted.
-use Rattle.std.proofs.Common.{◌≡◌, ◌+◌, ◌<◌, ◌≤◌, ℕ, length, drop, List, [], ◌∷◌, refl, ap, sym, ◌∙◌, subst, arith}
+use Rattle.std.proofs.Common.{◌≡◌, ◌+◌, ◌<◌, drop, List, [], ◌∷◌, refl, ap, sym, ◌∙◌, subst, arith}
 use Rattle.std.specs.Prelude.{ℤ, pos, ◌+ℤ◌, ◌≤ℤ◌, ◌<ℤ◌, Bool, true, false, ◌&&◌, ◌||◌, is_some, Option, Some, None}
 use Rattle.std.specs.Int.{int_min, int_max}
 use Rattle.std.proofs.lemmas.Int.{ints, by_lt_z}
@@ -7,9 +7,9 @@ use Rattle.element_core.specs.Numbering.{Numbering}
 use Rattle.number_line.specs.Pieces.{Holders, pair_at, holders_at, same_holders, values_of, value_in, in_either, in_first, in_both}
 use Rattle.number_line.proofs.PieceLemmas.{EndsFrom, IsLeft, AreHeld, held_before}
 use Rattle.range_map.specs.Valued.{pair_in_numbers, pairs_in_numbers}
-use Rattle.blaze_joins.specs.PlaceView.{pairs_from, ranges_from, ranges_behind}
+use Rattle.blaze_joins.specs.PlaceView.{pairs_from, ranges_behind}
 use Rattle.blaze_joins.specs.declared.walk.Walk.{Walk}
-use Rattle.blaze_joins.specs.WalkView.{left_of, right_of, first_holder, first_end, next_number, pieces_to_come, AreUnwanted, IsWalk, IsNextOf, NoneIsNext, IsWalkAt, IsMeeting}
+use Rattle.blaze_joins.specs.WalkView.{left_of, right_of, first_holder, first_end, next_number, pieces_to_come, AreUnwanted, IsWalk, IsNextOf, NoneIsNext, IsMeeting}
 use Rattle.blaze_joins.proofs.WalkLemmas.{walk_held, reaches_left, reaches_right, end_low, both_above, both_held, end_held, one_begins, pieces_fewer}
 
 -- ---- numbers that have no value
