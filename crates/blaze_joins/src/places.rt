@@ -86,12 +86,6 @@ pub(crate) fn place_behind<T: Element, V: Eq>(pairs: &[(Range<T>, V)], at: usize
 {
     match pairs.get(at) {
         None => at,
-        Some(first) => {
-            if is_below(end, first.0.end()) {
-                at
-            } else {
-                at + 1
-            }
-        }
+        Some(first) => at + usize::from(!is_below(end, first.0.end())),
     }
 }
